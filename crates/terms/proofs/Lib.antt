@@ -1,0 +1,5 @@
+pub mod RefusalLaws
+pub mod LittleLaws
+pub mod Parts
+pub mod OverlayLaws
+pub mod Settles

@@ -1,0 +1,5 @@
+pub mod Limits
+pub mod Numbers
+pub mod Refusal
+pub mod Little
+pub mod Overlay
