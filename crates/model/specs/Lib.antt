@@ -1,0 +1,7 @@
+pub mod Time
+pub mod Routine
+pub mod Memory
+pub mod Bounds
+pub mod Run
+pub mod Report
+pub mod Traces
