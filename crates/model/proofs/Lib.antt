@@ -1,3 +1,4 @@
 pub mod Examples
 pub mod RunLaws
+pub mod Turns
 pub mod Keeping
