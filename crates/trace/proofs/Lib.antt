@@ -1,0 +1,4 @@
+pub mod RecordLaws
+pub mod SetupLaws
+pub mod StepLaws
+pub mod Outcomes

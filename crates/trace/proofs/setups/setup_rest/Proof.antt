@@ -1,0 +1,86 @@
+use Rattle.trace.proofs.Outcomes.{rest-refused, start-refused, read-accepted, read-processes, rest-whole, start-whole}
+use Rattle.trace.proofs.SetupLaws.{setup-said}
+use Rattle.trace.specs.Record.{byte}
+use Rattle.terms.proofs.Parts.{part-to-end}
+use denote.Ref.{now}
+use lib.ListN.{length}
+use native.Mathlib.Omega.{arith}
+use native.Mathlib.Nat.{zero-add}
+use Prim.Native.Nat.{ℕ, _+_, _≤_}
+use mathlib.Core.Path.{_≡_, _∙_}
+use mathlib.Core.List.{List}
+use borrow.Author.Needs.{needs}
+use Rattle.trace.proofs.setups.setup_rest.Statement.{statement}
+use Rattle.trace.proofs.setups.setup_rest.Tie as tie
+use Rattle.trace.proofs.setups.setup_rest.Reads as reads
+use Rattle.trace.proofs.setups.setup_rest.Lts as lts
+use Rattle.trace.proofs.setups.read_setup.Reads as read-setup-reads
+use Rattle.trace.proofs.wide.Reads as wide-reads
+
+-- where the setup is accepted, n is the trace's fourth byte, and 8 + n is within the trace
+module _ (c : tie.After-wide) where
+  abbrev trace : List ℕ
+  trace = now (c .before .before .before .before .before .args .trace)
+
+  count : c .wide .result ≡ byte 3 trace
+  count = c .wide .ensures ∙ read-processes _ _ (c .before .before .before .read-setup .ensures) (c .before .if1 .left)
+
+  end : 8 + c .wide .result ≤ length trace
+  end = rw count (setup-said _ trace (read-accepted _ _ (c .before .before .before .read-setup .ensures) (c .before .if1 .left)) .head .whole)
+
+-- src/setups.rt:164:9
+read-setup-requires : tie.Need-read-setup-requires
+read-setup-requires c κs = search needs
+
+-- src/setups.rt:166:9
+slice-aggregate-result : tie.Need-slice-aggregate-result
+slice-aggregate-result c = search needs
+
+-- src/setups.rt:166:9
+returns : tie.Need-returns
+returns c =
+    let e = c .before .before .before .read-setup .ensures in
+    let no = c .before .if1 .taken in
+    (rest-refused _ _ e no, simp (start-refused _ _ e no, zero-add))
+
+-- src/setups.rt:168:19
+wide-requires : tie.Need-wide-requires
+wide-requires c κs = search needs
+
+-- src/setups.rt:168:15
+add-end : tie.Need-add-end
+add-end c = search needs
+
+-- src/setups.rt:169:5
+sub-result : tie.Need-sub-result
+sub-result c = end c
+
+-- src/setups.rt:169:5
+part-result-start : tie.Need-part-result-start
+part-result-start c = omega (arith, end c)
+
+-- src/setups.rt:169:5
+part-result-end : tie.Need-part-result-end
+part-result-end c = search needs
+
+-- src/setups.rt:160:1
+returns-2 : tie.Need-returns-2
+returns-2 c =
+    let d = c .before in
+    let e = d .before .before .before .read-setup .ensures in
+    let ok = d .before .if1 .left in
+    (rw (part-to-end, count d) (rest-whole _ _ e ok), simp (count d, start-whole _ _ e ok))
+
+pub setup-rest-spec : {M : Type 1} → statement M
+setup-rest-spec =
+    tie.close
+    (tie.spec
+    read-setup-requires
+    slice-aggregate-result
+    returns
+    wide-requires
+    add-end
+    sub-result
+    part-result-start
+    part-result-end
+    returns-2)
