@@ -2,3 +2,5 @@ pub mod RecordLaws
 pub mod SetupLaws
 pub mod StepLaws
 pub mod Outcomes
+pub mod RoundTrip
+pub mod Settled

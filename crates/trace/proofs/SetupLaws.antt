@@ -2,7 +2,7 @@
 -- Assumes nothing.
 use mathlib.Core.Path.{_≡_, refl, sym, _∙_, ap}
 use mathlib.Core.Bool.{false}
-use mathlib.Core.List.{List}
+use mathlib.Core.List.{List, []}
 use Prim.Native.Nat.{ℕ, zero, suc, _+_, _-_, _≤_, _<_}
 use native.Mathlib.Omega.{arith}
 use borrow.Author.Tests.{ltb-false, leb-false, eqb-true, le-ltb, lt-leb, eq-eqb, ne-eqb, not-false}
@@ -12,9 +12,11 @@ use lib.Dec.{ltb}
 use Rattle.terms.specs.Limits.{mostProcesses, mostSlots}
 use Rattle.terms.specs.Little.{AllBytes}
 use Rattle.terms.specs.Refusal.{any}
-use Rattle.terms.proofs.RefusalLaws.{then-both, passed, refuse-false, both-false, not-outside, inside}
+use Rattle.terms.proofs.RefusalLaws.{if-refused, then-both, passed, refuse-false, both-false, not-outside, inside}
 use Rattle.trace.specs.Record.{byte, setupMark}
-use Rattle.trace.specs.Setup.{badKind, badSize, badStart, setupLimits, startRefusal, headRefusal, startBytes, places, setupFields, setupRefusal, setupWriteRefusal}
+use Rattle.trace.specs.Setup.{badKind, badSize, badStart, setupLimits, startRefusal, headRefusal, startBytes, places, setupFields, noSetup, setupRefusal, setupRead, setupRest, restStart, setupWriteRefusal}
+use Rattle.trace.specs.declared.Setup.{Setup}
+use Rattle.trace.specs.declared.SetupRead.{SetupRead}
 use Rattle.trace.proofs.RecordLaws.{marked-said, byte-small, none-bad, all-good}
 
 -- BY KIND
@@ -141,6 +143,33 @@ module _ (most : ℕ) (s : List ℕ) where
   pub said-setup : AcceptedSetup most s → setupRefusal most s ≡ 0
   unfolding setupRefusal
   said-setup a = simp (said-head (a .head), a .good)
+
+-- what is read and what is left, by the refusal
+module _ (s : List ℕ) where
+  pub setup-accepted : setupRefusal mostProcesses s ≡ 0 → record { refusal = 0; setup = setupFields s } ≡ setupRead s
+  unfolding setupRead
+  setup-accepted e = simp e
+
+  pub setup-refused : (k : ℕ) → setupRefusal mostProcesses s ≡ k → (k ≡ 0 → ⊥) → record { refusal = k; setup = noSetup } ≡ setupRead s
+  unfolding setupRead
+  setup-refused k e h = simp (e, if-refused k h)
+
+  pub rest-accepted : setupRefusal mostProcesses s ≡ 0 → (setupRest s ≡ drop (8 + byte 3 s) s) × (restStart s ≡ 8 + byte 3 s)
+  unfolding setupRest restStart
+  rest-accepted e = (simp e, simp e)
+
+  pub rest-refused : (k : ℕ) → setupRefusal mostProcesses s ≡ k → (k ≡ 0 → ⊥) → (setupRest s ≡ []) × (restStart s ≡ 0)
+  unfolding setupRest restStart
+  rest-refused k e h = (simp (e, if-refused k h), simp (e, if-refused k h))
+
+  -- of what a reader answered: its refusal is the table's, and where that is 0 its fields are the setup's
+  module _ (r : SetupRead) (e : r ≡ setupRead s) where
+    pub setup-refusal-read : setupRefusal mostProcesses s ≡ r .refusal
+    unfolding setupRead
+    setup-refusal-read = sym (ap (λ (x : SetupRead). x .refusal) e)
+
+    pub setup-fields-read : r .refusal ≡ 0 → r .setup ≡ setupFields s
+    setup-fields-read h = ap (λ (x : SetupRead). x .setup) (e ∙ sym (setup-accepted (setup-refusal-read ∙ h)))
 
 -- START BYTES
 

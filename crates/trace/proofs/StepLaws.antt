@@ -1,6 +1,6 @@
 -- What an accepted step says, and that what says it is accepted: no caller looks into the table.
 -- Assumes nothing.
-use mathlib.Core.Path.{_≡_}
+use mathlib.Core.Path.{_≡_, sym, _∙_, ap}
 use mathlib.Core.List.{List}
 use Prim.Native.Nat.{ℕ, _≤_, _<_}
 use native.Mathlib.Omega.{arith}
@@ -76,7 +76,16 @@ module _ (most : ℕ) (s : List ℕ) where
   unfolding stepRead
   step-accepted e = simp e
 
--- a tick of four bytes is a 32-bit number, a process of one a byte
+  -- of what a reader answered: its refusal is the table's, and where that is 0 its fields are the step's
+  module _ (r : StepRead) (e : r ≡ stepRead most s) where
+    pub step-refusal-read : stepRefusal most s ≡ r .refusal
+    unfolding stepRead
+    step-refusal-read = sym (ap (λ (x : StepRead). x .refusal) e)
+
+    pub step-fields-read : r .refusal ≡ 0 → r .step ≡ stepFields s
+    step-fields-read h = ap (λ (x : StepRead). x .step) (e ∙ sym (step-accepted (step-refusal-read ∙ h)))
+
+-- a tick of four bytes is a 32-bit number
 pub tick-small : (s : List ℕ) → AllBytes s → stepFields s .tick < 4_294_967_296
 tick-small s h = omega (arith, byte-small s h 4, byte-small s h 5, byte-small s h 6, byte-small s h 7)
 

@@ -1,3 +1,4 @@
+-- `is_marked` meets its contract: where the first bytes agree the second decide. Assumes nothing.
 use borrow.Author.Tests.{eq-eqb, ne-eqb}
 use borrow.Author.Needs.{needs}
 use Rattle.trace.proofs.is_marked.Statement.{statement}

@@ -1,3 +1,4 @@
+-- `is_outside` meets its contract: where the first test fails the second decides. Assumes nothing.
 use borrow.Author.Tests.{lt-ltb, le-ltb}
 use Rattle.trace.proofs.is_outside.Statement.{statement}
 use Rattle.trace.proofs.is_outside.Tie as tie

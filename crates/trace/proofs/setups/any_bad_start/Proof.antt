@@ -1,3 +1,4 @@
+-- `any_bad_start` meets its contract. The loop's invariant: whether some byte is bad is decided by those from i on. Assumes nothing.
 use Rattle.trace.specs.Setup.{badStart}
 use Rattle.terms.proofs.RefusalLaws.{any-here, any-later, any-none}
 use Rattle.terms.specs.Refusal.{any}

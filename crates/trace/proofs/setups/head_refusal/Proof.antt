@@ -1,3 +1,4 @@
+-- `head_refusal` meets its contract: at each `return` the tests that led there say which refusal is the first. Assumes nothing.
 use Rattle.trace.specs.Setup.{setupLimits}
 use Rattle.trace.specs.Record.{byte, marked, setupMark}
 use Rattle.terms.proofs.RefusalLaws.{then-stop}

@@ -1,3 +1,4 @@
+-- `is_bad_kind` meets its contract. Assumes nothing.
 use Rattle.trace.specs.Setup.{badKind}
 use borrow.Author.Needs.{needs}
 use Rattle.trace.proofs.setups.is_bad_kind.Statement.{statement}

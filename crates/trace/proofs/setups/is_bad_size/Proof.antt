@@ -1,3 +1,4 @@
+-- `is_bad_size` meets its contract: where ℓ or b is in its range the zero byte decides. Assumes nothing.
 use Rattle.trace.specs.Setup.{badSize}
 use mathlib.Core.Path.{sym, _∙_}
 use borrow.Author.Needs.{needs}

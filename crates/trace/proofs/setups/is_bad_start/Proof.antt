@@ -1,3 +1,4 @@
+-- `is_bad_start` meets its contract, in kind 1 and in the others. Assumes nothing.
 use Rattle.trace.specs.Setup.{badStart}
 use borrow.Author.Tests.{eq-eqb, ne-eqb}
 use mathlib.Core.Path.{_∙_}

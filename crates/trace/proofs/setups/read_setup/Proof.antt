@@ -1,3 +1,4 @@
+-- `read_setup` meets its contract: refused by the head, refused by the start bytes, accepted. Assumes nothing.
 use Rattle.trace.proofs.Outcomes.{read-head, read-starts, read-whole}
 use Rattle.trace.proofs.SetupLaws.{Head, head-said}
 use Rattle.trace.specs.Setup.{headRefusal, startBytes, startsOf}

@@ -1,3 +1,4 @@
+-- `setup_limits` meets its contract: at each `return` the tests that led there say which refusal is the first. Assumes nothing.
 use mathlib.Core.Path.{sym, _∙_}
 use borrow.Author.Needs.{needs}
 use Rattle.trace.proofs.setups.setup_limits.Statement.{statement}

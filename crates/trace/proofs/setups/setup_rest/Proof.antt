@@ -1,5 +1,8 @@
-use Rattle.trace.proofs.Outcomes.{rest-refused, start-refused, read-accepted, read-processes, rest-whole, start-whole}
-use Rattle.trace.proofs.SetupLaws.{setup-said}
+-- `setup_rest` meets its contract: on refusal the empty part at the beginning, otherwise the part from 8 + n on. Assumes nothing.
+use Rattle.trace.proofs.SetupLaws.{setup-said, setup-refusal-read, setup-fields-read, rest-accepted, rest-refused}
+use Rattle.terms.specs.Limits.{mostProcesses}
+use Rattle.trace.specs.Setup.{setupRefusal}
+use Rattle.trace.specs.declared.Setup.{Setup}
 use Rattle.trace.specs.Record.{byte}
 use Rattle.terms.proofs.Parts.{part-to-end}
 use denote.Ref.{now}
@@ -7,7 +10,7 @@ use lib.ListN.{length}
 use native.Mathlib.Omega.{arith}
 use native.Mathlib.Nat.{zero-add}
 use Prim.Native.Nat.{ℕ, _+_, _≤_}
-use mathlib.Core.Path.{_≡_, _∙_}
+use mathlib.Core.Path.{_≡_, sym, _∙_, ap}
 use mathlib.Core.List.{List}
 use borrow.Author.Needs.{needs}
 use Rattle.trace.proofs.setups.setup_rest.Statement.{statement}
@@ -22,11 +25,14 @@ module _ (c : tie.After-wide) where
   abbrev trace : List ℕ
   trace = now (c .before .before .before .before .before .args .trace)
 
+  accepted : setupRefusal mostProcesses trace ≡ 0
+  accepted = setup-refusal-read _ _ (c .before .before .before .read-setup .ensures) ∙ c .before .if1 .left
+
   count : c .wide .result ≡ byte 3 trace
-  count = c .wide .ensures ∙ read-processes _ _ (c .before .before .before .read-setup .ensures) (c .before .if1 .left)
+  count = c .wide .ensures ∙ ap (λ (x : Setup). x .processes) (setup-fields-read _ _ (c .before .before .before .read-setup .ensures) (c .before .if1 .left))
 
   end : 8 + c .wide .result ≤ length trace
-  end = rw count (setup-said _ trace (read-accepted _ _ (c .before .before .before .read-setup .ensures) (c .before .if1 .left)) .head .whole)
+  end = rw count (setup-said _ trace accepted .head .whole)
 
 -- src/setups.rt:164:9
 read-setup-requires : tie.Need-read-setup-requires
@@ -39,9 +45,8 @@ slice-aggregate-result c = search needs
 -- src/setups.rt:166:9
 returns : tie.Need-returns
 returns c =
-    let e = c .before .before .before .read-setup .ensures in
-    let no = c .before .if1 .taken in
-    (rest-refused _ _ e no, simp (start-refused _ _ e no, zero-add))
+    let r = rest-refused _ _ (setup-refusal-read _ _ (c .before .before .before .read-setup .ensures)) (c .before .if1 .taken) in
+    (sym (r .0), simp (r .1, zero-add))
 
 -- src/setups.rt:168:19
 wide-requires : tie.Need-wide-requires
@@ -67,9 +72,8 @@ part-result-end c = search needs
 returns-2 : tie.Need-returns-2
 returns-2 c =
     let d = c .before in
-    let e = d .before .before .before .read-setup .ensures in
-    let ok = d .before .if1 .left in
-    (rw (part-to-end, count d) (rest-whole _ _ e ok), simp (count d, start-whole _ _ e ok))
+    let r = rest-accepted _ (accepted d) in
+    (rw (part-to-end, count d) (sym (r .0)), simp (count d, r .1))
 
 pub setup-rest-spec : {M : Type 1} → statement M
 setup-rest-spec =

@@ -1,3 +1,4 @@
+-- `setup_write_refusal` meets its contract: at each `return` the tests that led there say which refusal is the first. Assumes nothing.
 use Rattle.trace.specs.Setup.{setupLimits, startRefusal, setupWriteRefusal}
 use Rattle.terms.proofs.RefusalLaws.{then-stop}
 use Rattle.terms.specs.Refusal.{refuse, _then_}

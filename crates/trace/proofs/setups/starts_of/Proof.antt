@@ -1,3 +1,4 @@
+-- `starts_of` meets its contract: a bad byte is refused, and otherwise the copy lies over the 32 zeros. Assumes nothing.
 use denote.Ref.{now}
 use lib.Seq.{take-length}
 use mathlib.Core.Path.{sym, _∙_}

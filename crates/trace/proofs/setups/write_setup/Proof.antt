@@ -1,3 +1,4 @@
+-- `write_setup` meets its contract: a refusal is the table's, and otherwise the two copies lie over the buffer's first bytes. Assumes nothing.
 use Rattle.trace.proofs.SetupLaws.{WritableSetup, setup-write-said}
 use Rattle.trace.proofs.RecordLaws.{wrote-refused, wrote-accepted}
 use Rattle.trace.specs.Setup.{setupHead, setupWriteRefusal}

@@ -1,3 +1,4 @@
+-- `read_step_of` meets its contract: at each `return` the tests that led there say which refusal is the first. Assumes nothing.
 use Rattle.trace.proofs.StepLaws.{step-refused, step-accepted}
 use Rattle.trace.specs.Step.{stepRefusal, stepRead}
 use denote.Ref.{now}

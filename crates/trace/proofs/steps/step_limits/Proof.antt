@@ -1,3 +1,4 @@
+-- `step_limits` meets its contract: at each `return` the tests that led there say which refusal is the first. Assumes nothing.
 use borrow.Author.Tests.{lt-ltb, le-ltb}
 use mathlib.Core.Path.{sym, _∙_}
 use borrow.Author.Needs.{needs}

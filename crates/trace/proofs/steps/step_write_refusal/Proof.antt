@@ -1,3 +1,4 @@
+-- `step_write_refusal` meets its contract: at each `return` the tests that led there say which refusal is the first. Assumes nothing.
 use Rattle.trace.specs.Step.{stepWriteRefusal}
 use Rattle.terms.proofs.RefusalLaws.{then-stop}
 use borrow.Author.Tests.{lt-ltb, le-ltb}

@@ -1,3 +1,4 @@
+-- `write_step` meets its contract: a refusal is the table's, and otherwise the copy lies over the buffer's first bytes. Assumes nothing.
 use Rattle.trace.proofs.StepLaws.{WritableStep, step-write-said}
 use Rattle.trace.proofs.RecordLaws.{wrote-refused, wrote-accepted}
 use Rattle.trace.specs.Step.{stepWriteRefusal}
