@@ -3,3 +3,5 @@ pub mod Examples
 pub mod RunLaws
 pub mod Turns
 pub mod Keeping
+pub mod Rooms
+pub mod SetupSays
