@@ -6,3 +6,5 @@ pub mod Keeping
 pub mod Rooms
 pub mod SetupSays
 pub mod Counts
+pub mod Cuts
+pub mod Points

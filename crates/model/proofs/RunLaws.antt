@@ -102,6 +102,14 @@ module _ (u : Shape) (x : State) (rest : List ℕ) where
       by (going t) f g = let a = if-going _ _ g in (t, f, a .0, a .1)
       by (stopped y j) f g = absurd (going-stopped (sym g))
 
+  -- from point to point: the record was accepted, and led there
+  pub reach-next : (k : ℕ) {s t : State} → reach u x rest k ≡ going s → reach u x rest (suc k) ≡ going t
+      → (recordRefusal u s (recordAt rest k) ≡ 0) × (after u s (stepFields (recordAt rest k)) ≡ t)
+  reach-next k {s} {t} e f =
+      let b = before k f in
+      let same = going-same (sym (b .1) ∙ e) in
+      subst (λ (y : State). (recordRefusal u y (recordAt rest k) ≡ 0) × (after u y (stepFields (recordAt rest k)) ≡ t)) same (b .2, b .3)
+
   -- what holds at the start and is kept by each accepted record holds after each of them
   pub each-record : (P : ℕ → State → Type 0) → P 0 x → Keeps u rest P → (k : ℕ) {s : State} → reach u x rest k ≡ going s → P k s
   unfolding reach
