@@ -1,7 +1,7 @@
 -- The moves and late writes of a row are counts over the records of its trace; and so is any further column.
 -- Assumes nothing.
 use Prim.Native.Nat.{ℕ, suc, _+_, _≤_}
-use mathlib.Core.Path.{_≡_, refl, sym, ap, _∙_}
+use mathlib.Core.Path.{_≡_, refl, ap, _∙_}
 use mathlib.Core.Logic.{_≢_}
 use mathlib.Core.Bool.{Bool, true, false, cond, _&&_}
 use mathlib.Core.List.{List}
@@ -22,7 +22,7 @@ use Rattle.model.specs.Counts.{howMany, stepAt, moveOf, lateIn, movesOf,
 use Rattle.model.proofs.RunLaws.{run-going}
 use Rattle.model.proofs.Turns.{rowGone, turn}
 use Rattle.model.proofs.Keeping.{Kept, Admitted, fresh-rows, each-kept}
-use Rattle.model.proofs.Rooms.{Few, reach-few}
+use Rattle.model.proofs.Rooms.{reach-few}
 use Rattle.model.proofs.SetupSays.{run-said, setup-sound, setup-starts}
 
 -- A COLUMN of the rows that begins at 0, keeps through a crash, and grows by one at each move that passes the test

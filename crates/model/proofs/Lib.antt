@@ -2,6 +2,8 @@ pub mod Places
 pub mod Examples
 pub mod RunLaws
 pub mod Turns
+pub mod Rows
+pub mod Admits
 pub mod Keeping
 pub mod Rooms
 pub mod SetupSays

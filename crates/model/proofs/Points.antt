@@ -16,12 +16,11 @@ use Rattle.trace.specs.Record.{byte}
 use Rattle.trace.specs.Setup.{setupFields}
 use Rattle.model.specs.declared.Shape.{Shape}
 use Rattle.model.specs.declared.State.{State}
-use Rattle.model.specs.declared.Outcome.{Outcome}
 use Rattle.model.specs.Routine.{routine}
 use Rattle.model.specs.Run.{fresh, recordRefusal, Progress, Progress.going, Progress.stopped, advance, reach, records, shapeOf, restOf, reached, runRefusal, runOf}
 use Rattle.model.specs.Report.{lines, reportOf, outcomeOf, ranOf}
 use Rattle.model.proofs.RunLaws.{reach-going-before, reach-long, records-end, run-reaches, run-ends, run-going}
-use Rattle.model.proofs.SetupSays.{Runs, run-said, said-run}
+use Rattle.model.proofs.SetupSays.{run-said, said-run}
 use Rattle.model.proofs.Cuts.{reach-cut, setup-fields-cut, setup-cut, rest-cut}
 
 -- CUT TRACES

@@ -1,6 +1,6 @@
 -- Every row of a run's state has room for one more move: its operation is in range, and its counts stay below the most steps.
 -- Assumes nothing.
-use Prim.Native.Nat.{ℕ, suc, _+_, _≤_, _<_}
+use Prim.Native.Nat.{ℕ, suc, _≤_, _<_}
 use mathlib.Core.Path.{_≡_, refl}
 use mathlib.Core.Bool.{Bool, true, false, cond}
 use mathlib.Core.List.{List}
@@ -24,7 +24,7 @@ use Rattle.model.proofs.Keeping.{RowOk, slot-small, fresh-rows, Kept, e
 
 -- THE OPERATION
 
-own-small : (κ : Routine) (u : Shape) → Sound u → {j : ℕ} {r : Row} → RowOk κ u j r → T (inKind κ Place.Flag) → r .own ≤ mostSlots
+pub own-small : (κ : Routine) (u : Shape) → Sound u → {j : ℕ} {r : Row} → RowOk κ u j r → T (inKind κ Place.Flag) → r .own ≤ mostSlots
 own-small Routine.Lock u so ok h = absurd h
 own-small Routine.Plain u so ok h = omega (arith, ok .small, so .slim)
 own-small Routine.Fast u so ok h = omega (arith, ok .small, so .slim)
