@@ -28,7 +28,7 @@ use Rattle.model.specs.Run.{rowAt, rowOf, blank, startRow, startRows, fr
 use Rattle.model.specs.Counts.{stepAt}
 use Rattle.model.proofs.RunLaws.{recordAt, Keeps, reach-start, reach-accepts, each-record}
 use Rattle.model.proofs.Turns.{each-row, move-or-stop}
-use Rattle.model.proofs.Rows.{next-row, crash-row, ok-begin, ok-blank}
+use Rattle.model.proofs.Rows.{local-ok, row-ok, next-ok, ok-begin, ok-blank}
 pub use Rattle.model.proofs.Rows.{RowOk, slot-small}
 pub use Rattle.model.proofs.Admits.{Admitted, admitted, admitted-accepts}
 
@@ -88,7 +88,8 @@ module _ (u : Shape) (so : Sound u) (s : State) (kt : Kept u s) where
           flags = flags-length (s .shared) q ∙ kt .flags;
           each =
               each-row (RowOk (routine u) u) (s .rows) (indexOf i) _ there (λ j n. kt .each j)
-              (next-row u so (indexOf i) r (a .late) (a .value) (wakeAt (u .delta) t) (routine u) (kt .each (indexOf i)) (r .local .place) _);
+              (row-ok (routine u) u (indexOf i) r _ (kt .each (indexOf i)) refl
+              (next-ok u so (indexOf i) r (a .value) (wakeAt (u .delta) t) (routine u) (kt .each (indexOf i)) (r .local .place) _));
           beyond = each-row (λ j x. u .count ≤ j → x ≡ blank) (s .rows) (indexOf i) _ there (λ j n. kt .beyond j) (λ l. absurd (omega arith));
         }
 
@@ -102,7 +103,8 @@ module _ (u : Shape) (so : Sound u) (s : State) (kt : Kept u s) where
           flags = kt .flags;
           each =
               each-row (RowOk (routine u) u) (s .rows) (indexOf i) _ there (λ j n. kt .each j)
-              (crash-row (routine u) u (indexOf i) (rowOf s i) (kt .each (indexOf i)));
+              (row-ok (routine u) u (indexOf i) (rowOf s i) _ (kt .each (indexOf i)) refl
+              (local-ok (routine u) u (indexOf i) (rowOf s i) (kt .each (indexOf i))));
           beyond = each-row (λ j x. u .count ≤ j → x ≡ blank) (s .rows) (indexOf i) _ there (λ j n. kt .beyond j) (λ l. absurd (omega arith));
         }
 

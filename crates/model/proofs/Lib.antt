@@ -5,8 +5,8 @@ pub mod Turns
 pub mod Rows
 pub mod Admits
 pub mod Keeping
-pub mod Rooms
 pub mod SetupSays
 pub mod Counts
+pub mod Rooms
 pub mod Cuts
 pub mod Points

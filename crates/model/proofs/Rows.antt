@@ -13,7 +13,7 @@ use Rattle.model.specs.declared.Kind.{Kind}
 use Rattle.model.specs.declared.Shape.{Shape}
 use Rattle.model.specs.declared.Local.{Local}
 use Rattle.model.specs.declared.Row.{Row}
-use Rattle.model.specs.Routine.{Routine, to, scans, Slots, slotsOf, slots, lockNext, plainNext, scanAt, fastNext, nextOf, counted, crash, begin}
+use Rattle.model.specs.Routine.{Routine, to, scans, Slots, slotsOf, slots, lockNext, plainNext, scanAt, fastNext, nextOf, begin}
 use Rattle.model.specs.Bounds.{Sound, startOk}
 use Rattle.model.specs.Run.{blank}
 use Rattle.model.proofs.Places.{inKind}
@@ -62,88 +62,82 @@ slotted Kind.Lock u x h g = record { leave = g; filled = mod-lt _ h; lost = g }
 slotted Kind.Plain u x h g = record { leave = g; filled = mod-lt _ h; lost = g }
 slotted Kind.Fast u x h g = record { leave = g; filled = mod-lt _ h; lost = g }
 
--- a move keeps a row; l, v and w are what it was answered and when its wait would end
-module _ (u : Shape) (so : Sound u) (j : ℕ) (r : Row) (l : Bool) (v w : ℕ) where
-  to-local : (κ : Routine) → RowOk κ u j r → (x : Local) → T (inKind κ (x .place)) → SlotOk κ u j (x .slot .0) → x .scan ≤ u .size → RowOk κ u j (counted l x r)
-  to-local κ ok x place slot scan = record { place = λ h. place; own = ok .own; small = ok .small; slot = slot; scan = scan }
+-- what a move changes of a row: the rest of it, own value apart, may be anything
+pub record LocalOk (κ : Routine) (u : Shape) (j : ℕ) (x : Local) : Type 0 where
+  place : j < u .count → T (inKind κ (x .place))
+  slot : SlotOk κ u j (x .slot .0)
+  scan : x .scan ≤ u .size
 
-  as-it-was : (κ : Routine) → RowOk κ u j r → RowOk κ u j (counted l (r .local) r)
-  as-it-was κ ok = record { place = ok .place; own = ok .own; small = ok .small; slot = ok .slot; scan = ok .scan }
+pub local-ok : (κ : Routine) (u : Shape) (j : ℕ) (r : Row) → RowOk κ u j r → LocalOk κ u j (r .local)
+local-ok κ u j r ok = record { place = ok .place; slot = ok .slot; scan = ok .scan }
 
-  lock-row : LockRow u j r → (p : Place) (b : Bool) → LockRow u j (counted l (lockNext (slots u (r .local)) p b w (r .local)) r)
-  lock-row ok = go
+pub row-ok : (κ : Routine) (u : Shape) (j : ℕ) (r q : Row) → RowOk κ u j r → q .own ≡ r .own → LocalOk κ u j (q .local) → RowOk κ u j q
+row-ok κ u j r q ok same x =
+    record { place = x .place; own = λ h. rw same (ok .own h); small = rw same (ok .small); slot = x .slot; scan = x .scan }
+
+at : (κ : Routine) (u : Shape) (j : ℕ) (x : Local) → T (inKind κ (x .place)) → SlotOk κ u j (x .slot .0) → x .scan ≤ u .size → LocalOk κ u j x
+at κ u j x place slot scan = record { place = λ h. place; slot = slot; scan = scan }
+
+-- a move leads to such a local part; v is what it read and w when its wait would end
+module _ (u : Shape) (so : Sound u) (j : ℕ) (r : Row) (v w : ℕ) where
+  lock-next : LockRow u j r → (p : Place) (b : Bool) → LocalOk Routine.Lock u j (lockNext (slots u (r .local)) p b w (r .local))
+  lock-next ok = go
     where
-      at : (x : Local) → T (inKind Routine.Lock (x .place)) → x .slot .0 < u .size → x .scan ≤ u .size → LockRow u j (counted l x r)
-      at = to-local Routine.Lock ok
-
       c : Slotted u (slots u (r .local))
       c = slotted (u .kind) u (r .local) (so .sized) (ok .slot)
 
-      go : (p : Place) (b : Bool) → LockRow u j (counted l (lockNext (slots u (r .local)) p b w (r .local)) r)
-      go Place.Rest b = at _ tt (c .leave) (ok .scan)
-      go Place.Look true = at _ tt (ok .slot) (ok .scan)
-      go Place.Look false = at _ tt (c .filled) (ok .scan)
-      go Place.Put true = at _ tt (ok .slot) (ok .scan)
-      go Place.Put false = at _ tt (ok .slot) (ok .scan)
-      go Place.Wait b = at _ tt (ok .slot) (ok .scan)
-      go Place.Check true = at _ tt (ok .slot) (ok .scan)
-      go Place.Check false = at _ tt (c .lost) (ok .scan)
-      go Place.Critical b = at _ tt (ok .slot) (ok .scan)
-      go Place.Flag b = as-it-was Routine.Lock ok
-      go Place.Scan b = as-it-was Routine.Lock ok
-      go Place.Decided b = as-it-was Routine.Lock ok
+      go : (p : Place) (b : Bool) → LocalOk Routine.Lock u j (lockNext (slots u (r .local)) p b w (r .local))
+      go Place.Rest b = at _ u j _ tt (c .leave) (ok .scan)
+      go Place.Look true = at _ u j _ tt (ok .slot) (ok .scan)
+      go Place.Look false = at _ u j _ tt (c .filled) (ok .scan)
+      go Place.Put true = at _ u j _ tt (ok .slot) (ok .scan)
+      go Place.Put false = at _ u j _ tt (ok .slot) (ok .scan)
+      go Place.Wait b = at _ u j _ tt (ok .slot) (ok .scan)
+      go Place.Check true = at _ u j _ tt (ok .slot) (ok .scan)
+      go Place.Check false = at _ u j _ tt (c .lost) (ok .scan)
+      go Place.Critical b = at _ u j _ tt (ok .slot) (ok .scan)
+      go Place.Flag b = local-ok _ u j r ok
+      go Place.Scan b = local-ok _ u j r ok
+      go Place.Decided b = local-ok _ u j r ok
 
-  plain-row : PlainRow u j r → (p : Place) (b : Bool) → PlainRow u j (counted l (plainNext p b v w (r .local)) r)
-  plain-row ok = go
+  plain-next : PlainRow u j r → (p : Place) (b : Bool) → LocalOk Routine.Plain u j (plainNext p b v w (r .local))
+  plain-next ok Place.Rest b = local-ok _ u j r ok
+  plain-next ok Place.Look true = at _ u j _ tt (ok .slot) (ok .scan)
+  plain-next ok Place.Look false = at _ u j _ tt (ok .slot) (ok .scan)
+  plain-next ok Place.Put b = at _ u j _ tt (ok .slot) (ok .scan)
+  plain-next ok Place.Wait b = at _ u j _ tt (ok .slot) (ok .scan)
+  plain-next ok Place.Check b = at _ u j _ tt (ok .slot) (ok .scan)
+  plain-next ok Place.Critical b = local-ok _ u j r ok
+  plain-next ok Place.Flag b = local-ok _ u j r ok
+  plain-next ok Place.Scan b = local-ok _ u j r ok
+  plain-next ok Place.Decided b = local-ok _ u j r ok
+
+  scan-next : FastRow u j r → (y : ℕ) → LocalOk Routine.Fast u j (scanAt (u .size) y (r .local))
+  scan-next ok y = by (leb y (u .size)) refl
     where
-      at : (x : Local) → T (inKind Routine.Plain (x .place)) → x .slot .0 ≡ 0 → x .scan ≤ u .size → PlainRow u j (counted l x r)
-      at = to-local Routine.Plain ok
+      by : (b : Bool) → leb y (u .size) ≡ b → LocalOk Routine.Fast u j (cond b (scans y (to Place.Scan (r .local))) (to Place.Check (r .local)))
+      by true e = at _ u j _ tt (ok .slot) (leb-true _ _ e)
+      by false e = at _ u j _ tt (ok .slot) (ok .scan)
 
-      go : (p : Place) (b : Bool) → PlainRow u j (counted l (plainNext p b v w (r .local)) r)
-      go Place.Rest b = as-it-was Routine.Plain ok
-      go Place.Look true = at _ tt (ok .slot) (ok .scan)
-      go Place.Look false = at _ tt (ok .slot) (ok .scan)
-      go Place.Put b = at _ tt (ok .slot) (ok .scan)
-      go Place.Wait b = at _ tt (ok .slot) (ok .scan)
-      go Place.Check b = at _ tt (ok .slot) (ok .scan)
-      go Place.Critical b = as-it-was Routine.Plain ok
-      go Place.Flag b = as-it-was Routine.Plain ok
-      go Place.Scan b = as-it-was Routine.Plain ok
-      go Place.Decided b = as-it-was Routine.Plain ok
+  fast-next : FastRow u j r → (p : Place) (b : Bool) → LocalOk Routine.Fast u j (fastNext (u .size) (r .own) p b v w (r .local))
+  fast-next ok Place.Rest b = local-ok _ u j r ok
+  fast-next ok Place.Look true = at _ u j _ tt (ok .slot) (ok .scan)
+  fast-next ok Place.Look false = scan-next ok _
+  fast-next ok Place.Put b = at _ u j _ tt (ok .slot) (ok .scan)
+  fast-next ok Place.Wait b = at _ u j _ tt (ok .slot) (ok .scan)
+  fast-next ok Place.Check b = at _ u j _ tt (ok .slot) (ok .scan)
+  fast-next ok Place.Critical b = local-ok _ u j r ok
+  fast-next ok Place.Flag b = at _ u j _ tt (ok .slot) (ok .scan)
+  fast-next ok Place.Scan true = scan-next ok _
+  fast-next ok Place.Scan false = at _ u j _ tt (ok .slot) (ok .scan)
+  fast-next ok Place.Decided b = local-ok _ u j r ok
 
-  fast-row : FastRow u j r → (p : Place) (b : Bool) → FastRow u j (counted l (fastNext (u .size) (r .own) p b v w (r .local)) r)
-  fast-row ok = go
-    where
-      at : (x : Local) → T (inKind Routine.Fast (x .place)) → x .slot .0 ≡ 0 → x .scan ≤ u .size → FastRow u j (counted l x r)
-      at = to-local Routine.Fast ok
+  pub next-ok : (κ : Routine) → RowOk κ u j r → (p : Place) (b : Bool) → LocalOk κ u j (nextOf κ u (r .own) p b v w (r .local))
+  next-ok Routine.Lock = lock-next
+  next-ok Routine.Plain = plain-next
+  next-ok Routine.Fast = fast-next
 
-      scan-on : (y : ℕ) → FastRow u j (counted l (scanAt (u .size) y (r .local)) r)
-      scan-on y = by (leb y (u .size)) refl
-        where
-          by : (b : Bool) → leb y (u .size) ≡ b → FastRow u j (counted l (cond b (scans y (to Place.Scan (r .local))) (to Place.Check (r .local))) r)
-          by true e = at _ tt (ok .slot) (leb-true _ _ e)
-          by false e = at _ tt (ok .slot) (ok .scan)
-
-      go : (p : Place) (b : Bool) → FastRow u j (counted l (fastNext (u .size) (r .own) p b v w (r .local)) r)
-      go Place.Rest b = as-it-was Routine.Fast ok
-      go Place.Look true = at _ tt (ok .slot) (ok .scan)
-      go Place.Look false = scan-on _
-      go Place.Put b = at _ tt (ok .slot) (ok .scan)
-      go Place.Wait b = at _ tt (ok .slot) (ok .scan)
-      go Place.Check b = at _ tt (ok .slot) (ok .scan)
-      go Place.Critical b = as-it-was Routine.Fast ok
-      go Place.Flag b = at _ tt (ok .slot) (ok .scan)
-      go Place.Scan true = scan-on _
-      go Place.Scan false = at _ tt (ok .slot) (ok .scan)
-      go Place.Decided b = as-it-was Routine.Fast ok
-
-  pub next-row : (κ : Routine) → RowOk κ u j r → (p : Place) (b : Bool) → RowOk κ u j (counted l (nextOf κ u (r .own) p b v w (r .local)) r)
-  next-row Routine.Lock = lock-row
-  next-row Routine.Plain = plain-row
-  next-row Routine.Fast = fast-row
-
-pub crash-row : (κ : Routine) (u : Shape) (j : ℕ) (r : Row) → RowOk κ u j r → RowOk κ u j (crash r)
-crash-row κ u j r ok = record { place = ok .place; own = ok .own; small = ok .small; slot = ok .slot; scan = ok .scan }
+-- AT THE BEGINNING
 
 pub ok-begin : (κ : Routine) (u : Shape) (j x : ℕ) → startOk κ (u .size) x → RowOk κ u j (begin κ j x)
 ok-begin Routine.Lock u j x ok = record { place = λ h. tt; own = λ h. omega arith; small = tt; slot = ok; scan = omega arith }
