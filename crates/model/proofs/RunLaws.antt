@@ -7,7 +7,7 @@ use native.Mathlib.Numerals.{add-one}
 use native.Mathlib.Nat.{add-zero, add-suc}
 use native.Mathlib.Omega.{arith}
 use lib.ListN.{length, drop, length-drop}
-use Rattle.terms.specs.Refusal.{_then_, ifAccepted}
+use Rattle.terms.specs.Refusal.{ifAccepted}
 use Rattle.terms.proofs.RefusalLaws.{then-on, then-stop, then-both, if-accepted, if-refused}
 use Rattle.trace.specs.Step.{stepRefusal, stepFields}
 use Rattle.trace.proofs.StepLaws.{step-said}
@@ -22,7 +22,7 @@ going-same e = cc
 pub going-stopped : {s : State} {x j : ℕ} → going s ≡ stopped x j → ⊥
 going-stopped e = let z : _≡_ {A = ℕ} 0 1 = cc in omega arith
 
--- the bytes of the record after the first k, and those behind it; and what the state says to it
+-- the bytes from the record after the first k on; what the state says to the record at the front of bytes
 abbrev pub recordAt : List ℕ → ℕ → List ℕ
 recordAt rest k = drop (k * 8) rest
 
@@ -91,7 +91,7 @@ module _ (u : Shape) (x : State) (rest : List ℕ) where
       let sum : k + (m - k) ≡ m = omega arith in
       rw (← sum) (stays k (m - k) e)
 
-  -- EACH RECORD: the states before a state that was reached; the record that led there was accepted
+  -- EACH RECORD: before a state that was reached there was one, and the record that led on was accepted
   before : (k : ℕ) {s : State} → reach u x rest (suc k) ≡ going s
       → (t : State) × (reach u x rest k ≡ going t) × (recordRefusal u t (recordAt rest k) ≡ 0) × (after u t (stepFields (recordAt rest k)) ≡ s)
   unfolding reach advance
@@ -117,6 +117,14 @@ module _ (u : Shape) (x : State) (rest : List ℕ) where
   each-record P start keep (suc k) e =
       let b = before k e in
       subst (P (suc k)) (b .3) (keep k (b .0) (b .2) (each-record P start keep k (b .1)))
+
+  -- accepted is: every record was accepted where those before it led
+  pub reach-all : (k : ℕ) → ((j : ℕ) (s : State) → j < k → reach u x rest j ≡ going s → recordRefusal u s (recordAt rest j) ≡ 0)
+      → (s : State) × (reach u x rest k ≡ going s)
+  reach-all zero h = (x, reach-start)
+  reach-all (suc k) h =
+      let there = reach-all k (λ j s l. h j s (omega arith)) in
+      (after u (there .0) (stepFields (recordAt rest k)), reach-accepts k (there .1) (h k (there .0) (omega arith) (there .1)))
 
   -- a prefix of an accepted trace is accepted
   pub reach-going-before : (j k : ℕ) {s : State} → reach u x rest k ≡ going s → j ≤ k → (t : State) × (reach u x rest j ≡ going t)
