@@ -1,1 +1,12 @@
+pub mod Places
 pub mod Examples
+pub mod RunLaws
+pub mod Turns
+pub mod Rows
+pub mod Admits
+pub mod Keeping
+pub mod SetupSays
+pub mod Counts
+pub mod Rooms
+pub mod Cuts
+pub mod Points
