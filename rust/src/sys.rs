@@ -3,7 +3,6 @@
 //!
 //! A length of 0 may come with any pointer; lent areas never overlap.
 
-#[link(name = "ghindulza", kind = "static")]
 unsafe extern "C" {
     pub fn ghindulza_run(
         trace: *const u8,
