@@ -147,9 +147,16 @@ pub struct Guarded<T> {
     behind: [u64; 4],
 }
 
+const BEFORE: [u64; 4] = [0x0123_4567_89AB_CDEF; 4];
+const BEHIND: [u64; 4] = [0xFEDC_BA98_7654_3210; 4];
+
 impl<T> Guarded<T> {
     pub fn new(lent: T) -> Guarded<T> {
-        Guarded { before: [0x0123_4567_89AB_CDEF; 4], lent, behind: [0xFEDC_BA98_7654_3210; 4] }
+        Guarded { before: BEFORE, lent, behind: BEHIND }
+    }
+
+    pub fn guards_stand(&self) -> bool {
+        self.before == BEFORE && self.behind == BEHIND
     }
 }
 
