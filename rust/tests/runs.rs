@@ -2,8 +2,11 @@
 
 mod common;
 
-use common::{Random, Runs, scale, scaled, walk::Walk};
-use independent::{STEP_SIZE, STEPS, TOP_TICK, write_setup, write_step};
+use common::{
+    Random, Runs, scale, scaled,
+    walk::{Walk, endless},
+};
+use independent::{STEP_SIZE, STEPS, TOP_TICK};
 
 /// What the traces of a test have met, so that a tame generator is noticed.
 #[derive(Default)]
@@ -239,7 +242,7 @@ fn a_million_steps() {
     let mut runs = Runs::new();
     for kind in 1..=3 {
         for n in [1, 32] {
-            let mut trace = endless(&mut random, kind, n, STEPS as u32);
+            let mut trace = endless(&mut random, [kind, n, 1], STEPS, 20_000);
             let setup = 8 + n as usize;
             assert_eq!(trace.len(), setup + 8_000_000);
             let room = 4 * n as usize;
@@ -258,35 +261,6 @@ fn a_million_steps() {
             assert_eq!(runs.check(&trace, room), (6, 0));
         }
     }
-}
-
-/// An accepted trace of `steps` steps: a lock can be used for ever, and a register
-/// that is only written late never leads to a decision.
-fn endless(random: &mut Random, kind: u8, n: u8, steps: u32) -> Vec<u8> {
-    let mut trace = vec![0; 8 + n as usize];
-    let starts = [(kind != 1) as u8; 32];
-    write_setup(&mut trace, kind, 1, 1, &starts[..n as usize]).unwrap();
-    let setup = independent::read_setup(&trace).unwrap();
-    let mut bench = independent::Bench::new(&setup);
-    let mut tick = 0;
-    let mut made = 0;
-    while made < steps {
-        let process = random.between(1, n as u32) as u8;
-        let event = (process > 1 && random.once_in(20_000)) as u8;
-        let at_put = bench.states()[process as usize - 1].place == independent::Place::Put;
-        let ahead = if kind != 1 && at_put { 2 } else { random.below(2) as u32 };
-        let mut card = [0; STEP_SIZE];
-        write_step(&mut card, process, event, tick + ahead).unwrap();
-        match bench.step(&card) {
-            Ok(()) => {
-                trace.extend(card);
-                made += 1;
-                tick += ahead;
-            }
-            Err(_) => tick += 1,
-        }
-    }
-    trace
 }
 
 /// The wrapper gives what the C surface gives.

@@ -286,3 +286,35 @@ impl Walk {
         self.bytes.extend(card);
     }
 }
+
+/// An accepted trace of `steps` steps with Δ = 1: a lock can be used for ever, and a
+/// register that is only written late never leads to a decision. Of `crash` steps,
+/// about one is a crash; process 1 never does.
+pub fn endless(random: &mut Random, [kind, n, size]: [u8; 3], steps: usize, crash: u64) -> Vec<u8> {
+    let first = (kind != 1) as u8;
+    let starts: Vec<u8> = (0..n).map(|_| first + random.below(size as u64) as u8).collect();
+    let mut trace = vec![0; 8 + n as usize];
+    write_setup(&mut trace, kind, size, 1, &starts).unwrap();
+    let mut bench = Bench::new(&read_setup(&trace).unwrap());
+    let (mut tick, mut made) = (0, 0);
+    while made < steps {
+        let process = random.between(1, n as u32) as u8;
+        let event = (process > 1 && random.once_in(crash)) as u8;
+        let at_put = bench.states()[process as usize - 1].place == Place::Put;
+        let ahead = match (kind, at_put) {
+            (2 | 3, true) => 2,
+            (_, true) if random.once_in(4) => 2,
+            _ => random.below(2) as u32,
+        };
+        let mut card = [0; STEP_SIZE];
+        write_step(&mut card, process, event, tick + ahead).unwrap();
+        if bench.step(&card).is_ok() {
+            trace.extend(card);
+            made += 1;
+            tick += ahead;
+        } else {
+            tick += 1;
+        }
+    }
+    trace
+}
