@@ -88,16 +88,13 @@ impl Bench {
             Kind::Plain => Place::Look,
             Kind::Fast => Place::Flag,
         };
-        let states = setup.starts.map(|start| State {
-            place,
-            slot: Register(if setup.kind == Kind::Lock { start as u32 } else { 0 }),
-            proposal: start as u32,
-            decided: 0,
-            scanned: 0,
-            earliest: 0,
-            moves: 0,
-            late: 0,
-        });
+        let mut states = [State::at(place); PROCESSES];
+        for (state, &start) in states.iter_mut().zip(&setup.starts[..setup.n as usize]) {
+            match setup.kind {
+                Kind::Lock => state.slot = Register(start as u32),
+                Kind::Plain | Kind::Fast => state.proposal = start as u32,
+            }
+        }
         Bench {
             kind: setup.kind,
             n: setup.n,
@@ -183,6 +180,19 @@ impl Bench {
 }
 
 impl State {
+    fn at(place: Place) -> Self {
+        State {
+            place,
+            slot: Register(0),
+            proposal: 0,
+            decided: 0,
+            scanned: 0,
+            earliest: 0,
+            moves: 0,
+            late: 0,
+        }
+    }
+
     fn move_in_lock(&mut self, bank: &mut Bank, i: Process, tick: u32, slots: u32, delta: u32) {
         match self.place {
             Place::Rest => self.place = Place::Look,

@@ -28,11 +28,13 @@ impl Kind {
     }
 
     /// A start byte is a slot (from 0) in the lock, a proposal (from 1) in the others.
-    fn start_fits(self, start: u8, size: u8) -> bool {
-        match self {
-            Kind::Lock => start < size,
-            Kind::Plain | Kind::Fast => (1..=size).contains(&start),
-        }
+    fn starts_fit(self, starts: &[u8], size: u8) -> bool {
+        let first = match self {
+            Kind::Lock => 0,
+            Kind::Plain | Kind::Fast => 1,
+        };
+        // Without an early way out, many bytes are compared at once.
+        starts.iter().fold(true, |fit, start| fit & (start.wrapping_sub(first) < size))
     }
 }
 
@@ -74,13 +76,11 @@ pub fn read_setup(bytes: &[u8]) -> Result<Setup, Refusal> {
         return Err(Refusal::Size);
     }
     let given = after.get(..count).ok_or(Refusal::SetupCut)?;
-    let mut starts = [0; PROCESSES];
-    for (start, &byte) in starts.iter_mut().zip(given) {
-        if !kind.start_fits(byte, size) {
-            return Err(Refusal::Start);
-        }
-        *start = byte;
+    if !kind.starts_fit(given, size) {
+        return Err(Refusal::Start);
     }
+    let mut starts = [0; PROCESSES];
+    starts[..count].copy_from_slice(given);
     Ok(Setup { kind, n, size, delta: u16::from_le_bytes([delta0, delta1]), starts })
 }
 
@@ -111,7 +111,7 @@ pub fn write_setup(
     if !(1..=REGISTERS as u8).contains(&size) {
         return Err(Refusal::Size);
     }
-    if !starts.iter().all(|&start| the_kind.start_fits(start, size)) {
+    if !the_kind.starts_fit(starts, size) {
         return Err(Refusal::Start);
     }
     let length = SETUP_HEAD + n;
