@@ -223,10 +223,7 @@ fn every_change(bytes: &mut [u8], mut check: impl FnMut(&[u8])) {
 fn setups_changed_in_one_byte() {
     let mut readers = Readers::new();
     let sizes: &[u8] = if scale() > 1.0 { &[1, 2, 3, 4, 5, 6, 7, 8] } else { &[1, 3, 8] };
-    let mut stride = if scale() < 1.0 { 7 } else { 1 };
-    if scale() < 0.05 {
-        stride = 31;
-    }
+    let stride = if scale() < 1.0 { 31 } else { 1 };
     for kind in 1..=3 {
         for n in (1..=32).step_by(stride) {
             for &size in sizes {

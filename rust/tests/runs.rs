@@ -3,7 +3,7 @@
 mod common;
 
 use common::{
-    Random, Runs, scale, scaled,
+    Random, Runs, is_wide, scaled,
     walk::{Walk, endless},
 };
 use independent::{STEP_SIZE, STEPS, TOP_TICK};
@@ -104,7 +104,7 @@ fn long_lived_traces() {
         "{} traces, {} accepted with {} steps and {} late writes",
         runs.count, met.accepted, met.steps, met.late_writes
     );
-    if scale() >= 0.05 {
+    if is_wide() {
         met.assert_wide();
         assert!(met.accepted > runs.count / 2, "most traces are accepted");
     }
@@ -143,7 +143,7 @@ fn every_refusal_after_every_record() {
         }
     }
     println!("{} runs, refusals met: {seen:?}", runs.count);
-    if scale() >= 0.05 {
+    if is_wide() {
         assert!(seen[9..].iter().all(|&times| times > 100), "refusals met: {seen:?}");
     }
 }
@@ -195,7 +195,7 @@ fn damaged_by_one_byte() {
         }
     }
     println!("{} runs, numbers met: {numbers:?}", runs.count);
-    if scale() >= 0.05 {
+    if is_wide() {
         for number in [0, 1, 2, 3, 4, 5, 6, 9, 10, 11, 12, 13, 14, 15, 16] {
             assert!(numbers[number] > 0, "refusal {number} was never met");
         }
@@ -230,7 +230,7 @@ fn setups_in_a_run() {
         numbers[runs.check(trace, room).0 as usize] += 1;
     }
     println!("{} runs, numbers met: {numbers:?}", runs.count);
-    if scale() >= 0.05 {
+    if is_wide() {
         assert!(numbers[..8].iter().all(|&times| times > 0), "numbers met: {numbers:?}");
     }
 }

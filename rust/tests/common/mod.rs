@@ -61,6 +61,11 @@ pub fn scale() -> f64 {
     }
 }
 
+/// True if the tests are large enough to expect that random traces meet everything.
+pub fn is_wide() -> bool {
+    scale() >= 0.5
+}
+
 /// Bytes as the failure messages show them.
 pub fn hex(bytes: &[u8]) -> String {
     let shown = &bytes[..bytes.len().min(4096)];
