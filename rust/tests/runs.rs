@@ -2,11 +2,15 @@
 
 mod common;
 
+use std::collections::{HashSet, VecDeque};
+
 use common::{
     Random, Runs, is_wide, scaled,
     walk::{Walk, endless},
 };
-use independent::{STEP_SIZE, STEPS, TOP_TICK};
+use independent::{
+    Bench, STEP_SIZE, STEPS, TOP_TICK, UNLIMITED, read_setup, write_setup, write_step,
+};
 
 /// What the traces of a test have met, so that a tame generator is noticed.
 #[derive(Default)]
@@ -167,6 +171,73 @@ fn cut_at_every_byte() {
         }
     }
     println!("{} runs", runs.count);
+}
+
+/// Small benches: each state that can be reached (up to a shift of all ticks), and
+/// from it each step of each process at each of the next ticks.
+#[test]
+fn every_state_of_small_benches() {
+    let mut runs = Runs::new();
+    let most = scaled(12_000) as usize;
+    let mut states = 0;
+    for (kind, size, starts) in [
+        (1, 1, &[0, 0][..]),
+        (1, 2, &[0, 1]),
+        (1, 2, &[0, 0, 0]),
+        (2, 2, &[1, 2]),
+        (2, 3, &[1, 2, 3]),
+        (3, 1, &[1, 1]),
+        (3, 2, &[1, 2]),
+        (3, 3, &[3, 1, 1]),
+    ] {
+        for delta in [0, 1, 2] {
+            let mut setup = vec![0; 8 + starts.len()];
+            write_setup(&mut setup, kind, size, delta, starts).unwrap();
+            let bench = Bench::new(&read_setup(&setup).unwrap());
+            let mut seen = HashSet::from([shape(&bench)]);
+            let mut queue = VecDeque::from([(setup, bench)]);
+            while let Some((mut trace, bench)) = queue.pop_front() {
+                let length = trace.len();
+                for process in 1..=starts.len() as u8 {
+                    for ahead in 0..=delta as u32 + 2 {
+                        for event in [0, 1] {
+                            let mut card = [0; STEP_SIZE];
+                            write_step(&mut card, process, event, bench.last() + ahead).unwrap();
+                            trace.extend(card);
+                            runs.check(&trace, 4 * starts.len());
+                            let mut next = bench.clone();
+                            if next.step(&card).is_ok()
+                                && seen.len() < most
+                                && seen.insert(shape(&next))
+                            {
+                                queue.push_back((trace.clone(), next));
+                            }
+                            trace.truncate(length);
+                        }
+                    }
+                }
+            }
+            states += seen.len();
+        }
+    }
+    println!("{} runs, {states} states", runs.count);
+}
+
+/// What decides a bench's future, its ticks counted from the last one.
+fn shape(bench: &Bench) -> Vec<u32> {
+    let last = bench.last();
+    let mut shape: Vec<u32> = bench.bank.values.to_vec();
+    shape.extend(bench.flags().iter().map(|&flag| flag as u32));
+    for (state, deadlines) in bench.states().iter().zip(bench.bank.deadlines.chunks_exact(8)) {
+        let left = state.earliest.saturating_sub(last);
+        shape.extend([state.place as u32, state.slot.0, state.decided, state.scanned, left]);
+        shape.extend(deadlines.iter().map(|&deadline| match deadline {
+            UNLIMITED => UNLIMITED,
+            _ if deadline < last => UNLIMITED - 1,
+            _ => deadline - last,
+        }));
+    }
+    shape
 }
 
 /// One byte of a trace changed, at each position.

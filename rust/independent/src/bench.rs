@@ -112,6 +112,11 @@ impl Bench {
         &self.states[..self.n as usize]
     }
 
+    /// The flag of each value, that of v at v − 1.
+    pub fn flags(&self) -> &[bool] {
+        &self.flags
+    }
+
     /// The last accepted tick, 0 before the first.
     pub fn last(&self) -> u32 {
         self.last
