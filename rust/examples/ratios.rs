@@ -40,7 +40,7 @@ fn time(
     mut reading: impl FnMut(),
 ) -> Timed {
     let mut passes = 1;
-    while elapsed(passes, &mut proved).max(elapsed(passes, &mut plain)) < ROUND {
+    while (0..3).map(|_| elapsed(passes, &mut plain)).min().unwrap() < ROUND {
         passes *= 2;
     }
     let mut best = [Duration::MAX; 3];
