@@ -1,4 +1,5 @@
 // The bank of timed registers of document 01: 8 registers for 32 processes, with a deadline for each pair of process and register.
+pub mod registers;
 
 // The registers' values, the deadline of each pair at `(i - 1) * 8 + c`, and the tick of the last accepted call.
 pub struct Bank {
