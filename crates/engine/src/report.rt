@@ -1,0 +1,75 @@
+// The report: a line of four numbers a process.
+ghost use mathlib.Core.Path.{_≡_};
+ghost use mathlib.Core.List.{_++_};
+ghost use Prim.Native.Nat.{_+_, _*_, _≤_};
+ghost use lib.ListN.{length, take, drop};
+ghost use Rattle.terms.specs.Limits.{mostProcesses};
+ghost use Rattle.terms.specs.Overlay.{overlay};
+ghost use Rattle.model.specs.Routine.{routineOf};
+ghost use Rattle.model.specs.Run.{lineWidth};
+ghost use Rattle.model.specs.Report.{shownOf, shownPlace, figureOf, line, lines};
+use model::Kind;
+use model::Place;
+use model::Row;
+
+fn shown(place: Place) -> u32
+    ensures { λ n. ⌜ n ≡ shownOf place ⌝ }
+{
+    match place {
+        Place::Rest => 0,
+        Place::Look => 1,
+        Place::Put => 2,
+        Place::Wait => 3,
+        Place::Check => 4,
+        Place::Critical => 5,
+        Place::Flag => 6,
+        Place::Scan => 7,
+        Place::Decided => 8,
+    }
+}
+
+fn shown_place(r: Row) -> u32
+    ensures { λ n. ⌜ n ≡ shownPlace r ⌝ }
+{
+    if r.crashed {
+        return 9;
+    }
+    let x = r.local;
+    let place = x.place;
+    shown(place)
+}
+
+fn figure(kind: Kind, r: Row) -> u32
+    ensures { λ n. ⌜ n ≡ figureOf (routineOf kind) r ⌝ }
+{
+    let x = r.local;
+    match kind {
+        Kind::Lock => x.slot.0,
+        Kind::Plain => x.decided,
+        Kind::Fast => x.decided,
+    }
+}
+
+fn write_line(kind: Kind, r: Row, at: usize, report: &mut [u32])
+    requires { ⌜ at + lineWidth ≤ length (now report) ⌝ }
+    ensures { λ _. ⌜ now (report .exit) ≡ take at (now (report .entry)) ++ (line (routineOf kind) r ++ drop (at + lineWidth) (now (report .entry))) ⌝ }
+{
+    report[at] = shown_place(r);
+    report[at + 1] = figure(kind, r);
+    report[at + 2] = r.moves;
+    report[at + 3] = r.lates;
+}
+
+// The lines of the first n rows, over the front of the report.
+pub fn write_report(kind: Kind, n: usize, rows: [Row; 32], report: &mut [u32])
+    requires { ⌜ n ≤ mostProcesses ⌝ }
+    requires { ⌜ lineWidth * n ≤ length (now report) ⌝ }
+    ensures { λ _. ⌜ now (report .exit) ≡ overlay (lines (routineOf kind) rows n) (now (report .entry)) ⌝ }
+{
+    let mut j: usize = 0;
+    while j < n {
+        let r = rows[j];
+        write_line(kind, r, j * 4, report);
+        j = j + 1;
+    }
+}
