@@ -1,7 +1,9 @@
 // ANSWER: memory's side of a move, in place. The registers are the bank's, the flags are plain.
 ghost use mathlib.Core.Path.{_≡_};
 ghost use Prim.Native.Nat.{_≤_};
-ghost use Rattle.terms.specs.Limits.{topTick};
+ghost use mathlib.Core.Bool.{false, cond};
+ghost use lib.ListN.{getD};
+ghost use Rattle.terms.specs.Limits.{mostSlots, topTick};
 ghost use Rattle.bank.specs.Registers.{bankOf};
 ghost use Rattle.model.specs.Bounds.{AskFits};
 ghost use Rattle.model.specs.Memory.{answerOf};

@@ -1,13 +1,11 @@
 // The report: a line of four numbers a process.
 ghost use mathlib.Core.Path.{_≡_};
 ghost use mathlib.Core.List.{_++_};
-ghost use Prim.Native.Nat.{_+_, _*_, _≤_};
+ghost use Prim.Native.Nat.{_+_, _≤_};
 ghost use lib.ListN.{length, take, drop};
-ghost use Rattle.terms.specs.Limits.{mostProcesses};
-ghost use Rattle.terms.specs.Overlay.{overlay};
 ghost use Rattle.model.specs.Routine.{routineOf};
 ghost use Rattle.model.specs.Run.{lineWidth};
-ghost use Rattle.model.specs.Report.{shownOf, shownPlace, figureOf, line, lines};
+ghost use Rattle.model.specs.Report.{shownOf, shownPlace, figureOf, line};
 use model::Kind;
 use model::Place;
 use model::Row;
@@ -50,7 +48,7 @@ fn figure(kind: Kind, r: Row) -> u32
     }
 }
 
-fn write_line(kind: Kind, r: Row, at: usize, report: &mut [u32])
+pub fn write_line(kind: Kind, r: Row, at: usize, report: &mut [u32])
     requires { ⌜ at + lineWidth ≤ length (now report) ⌝ }
     ensures { λ _. ⌜ now (report .exit) ≡ take at (now (report .entry)) ++ (line (routineOf kind) r ++ drop (at + lineWidth) (now (report .entry))) ⌝ }
 {
@@ -58,18 +56,4 @@ fn write_line(kind: Kind, r: Row, at: usize, report: &mut [u32])
     report[at + 1] = figure(kind, r);
     report[at + 2] = r.moves;
     report[at + 3] = r.lates;
-}
-
-// The lines of the first n rows, over the front of the report.
-pub fn write_report(kind: Kind, n: usize, rows: [Row; 32], report: &mut [u32])
-    requires { ⌜ n ≤ mostProcesses ⌝ }
-    requires { ⌜ lineWidth * n ≤ length (now report) ⌝ }
-    ensures { λ _. ⌜ now (report .exit) ≡ overlay (lines (routineOf kind) rows n) (now (report .entry)) ⌝ }
-{
-    let mut j: usize = 0;
-    while j < n {
-        let r = rows[j];
-        write_line(kind, r, j * 4, report);
-        j = j + 1;
-    }
 }

@@ -1,12 +1,11 @@
 // What one process does at a move: what it asks of memory at its place, where it goes with the answer; and whether it may take a step.
 ghost use mathlib.Core.Path.{_≡_};
 ghost use Prim.Native.Nat.{_+_, _≤_, _<_};
-ghost use Rattle.terms.specs.Limits.{mostSteps, topTick};
+ghost use mathlib.Core.Bool.{cond};
+ghost use Rattle.terms.specs.Limits.{mostSlots, topTick};
 ghost use Rattle.model.specs.Bounds.{Sound, Room};
 ghost use Rattle.model.specs.Time.{wakeAt};
-ghost use Rattle.model.specs.Routine.{askAt, told, slots, lockNext, plainNext, fastNext, nextOf, scanAt, scanFrom, counted, rowAfter, isDecided};
-ghost use Rattle.model.specs.Routine as model;
-ghost use Rattle.model.specs.Run as runs;
+ghost use Rattle.model.specs.Routine.{routineOf, askAt, told, slots, lockNext, plainNext, fastNext, nextOf, scanAt, scanFrom, rowAfter, isDecided};
 use bank::Bank;
 use model::Ask;
 use model::Kind;
@@ -41,7 +40,7 @@ pub fn ask(place: Place, delta: u32, r: Row) -> Ask
 // THE LOCAL PART at another place; at another slot; with a wait that ends at `wake`; with a decision; with the next value of a scan.
 
 fn to(place: Place, x: Local) -> Local
-    ensures { λ y. ⌜ y ≡ model.to place x ⌝ }
+    ensures { λ y. ⌜ y ≡ Rattle.model.specs.Routine.to place x ⌝ }
 {
     let slot = x.slot;
     Local {
@@ -54,7 +53,7 @@ fn to(place: Place, x: Local) -> Local
 }
 
 fn on(c: u32, x: Local) -> Local
-    ensures { λ y. ⌜ y ≡ model.on c x ⌝ }
+    ensures { λ y. ⌜ y ≡ Rattle.model.specs.Routine.on c x ⌝ }
 {
     let place = x.place;
     Local {
@@ -67,7 +66,7 @@ fn on(c: u32, x: Local) -> Local
 }
 
 fn until(wake: u32, x: Local) -> Local
-    ensures { λ y. ⌜ y ≡ model.until wake x ⌝ }
+    ensures { λ y. ⌜ y ≡ Rattle.model.specs.Routine.until wake x ⌝ }
 {
     let mut y = x;
     y.wake = wake;
@@ -75,7 +74,7 @@ fn until(wake: u32, x: Local) -> Local
 }
 
 fn decides(v: u32, x: Local) -> Local
-    ensures { λ y. ⌜ y ≡ model.decides v x ⌝ }
+    ensures { λ y. ⌜ y ≡ Rattle.model.specs.Routine.decides v x ⌝ }
 {
     let mut y = x;
     y.decided = v;
@@ -83,7 +82,7 @@ fn decides(v: u32, x: Local) -> Local
 }
 
 fn scans(v: u32, x: Local) -> Local
-    ensures { λ y. ⌜ y ≡ model.scans v x ⌝ }
+    ensures { λ y. ⌜ y ≡ Rattle.model.specs.Routine.scans v x ⌝ }
 {
     let mut y = x;
     y.scan = v;
@@ -263,7 +262,7 @@ pub fn take(shape: Shape, place: Place, r: Row, tick: u32, a: Reply) -> Row
 }
 
 pub fn crash(r: Row) -> Row
-    ensures { λ x. ⌜ x ≡ model.crash r ⌝ }
+    ensures { λ x. ⌜ x ≡ Rattle.model.specs.Routine.crash r ⌝ }
 {
     let mut x = r;
     x.crashed = true;
@@ -290,7 +289,7 @@ fn is_decided(place: Place) -> bool
 
 // 13 (below the last), 14, 15, 16, of a step of the process with row r.
 pub fn judge(r: Row, last: u32, step: Step) -> u32
-    ensures { λ no. ⌜ no ≡ runs.judge r last step ⌝ }
+    ensures { λ no. ⌜ no ≡ Rattle.model.specs.Run.judge r last step ⌝ }
 {
     if step.tick < last {
         return 13;

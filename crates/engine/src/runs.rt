@@ -11,6 +11,7 @@ ghost use Rattle.engine.specs.Stepped.{Due, sharedOf, stepped, ranFrom};
 use crate::memory;
 use crate::report;
 use crate::routine;
+use bank::Bank;
 use model::Kind;
 use model::Outcome;
 use model::Row;
@@ -59,15 +60,12 @@ fn run_steps(shape: Shape, starts: [u8; 32], rest: &[u8], report: &mut [u32]) ->
     ensures { λ r. ⌜ record { outcome = r; report = now (report .exit) } ≡ ranFrom shape starts (now (rest .entry)) (now (report .entry)) ⌝ }
 {
     let kind = shape.kind;
-    let state = State::fresh(shape, starts);
-    let mut rows = state.rows;
-    let bank = state.bank;
-    let mut values = bank.values;
-    let mut deadlines = bank.deadlines;
-    let mut touched = bank.last;
-    let shared = state.shared;
-    let mut flags = shared.flags;
-    let mut last = state.last;
+    let mut rows = State::start_rows(shape, starts);
+    let mut values = [0u32; 8];
+    let mut deadlines = [Bank::UNLIMITED; 256];
+    let mut touched: u32 = 0;
+    let mut flags = [false; 9];
+    let mut last: u32 = 0;
     let mut at: usize = 0;
     let mut k: u32 = 0;
     while at < rest.len() {
@@ -90,7 +88,13 @@ fn run_steps(shape: Shape, starts: [u8; 32], rest: &[u8], report: &mut [u32]) ->
         last = step.tick;
         at = at + 8;
     }
-    report::write_report(kind, shape.count as usize, rows, report);
+    let n = shape.count as usize;
+    let mut j: usize = 0;
+    while j < n {
+        let r = rows[j];
+        report::write_line(kind, r, j * 4, report);
+        j = j + 1;
+    }
     Outcome { number: 0, at: k }
 }
 

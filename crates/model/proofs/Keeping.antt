@@ -316,12 +316,12 @@ module _ (u : Shape) (so : Sound u) (s : State) (kt : Kept u s) where
 
 -- A RUN
 
-length-startRows : (u : Shape) (j : ℕ) (xs : List ℕ) → length (startRows u j xs) ≡ length xs
+pub length-startRows : (u : Shape) (j : ℕ) (xs : List ℕ) → length (startRows u j xs) ≡ length xs
 unfolding startRows
 length-startRows u j [] = refl
 length-startRows u j (x ∷ xs) = ap suc (length-startRows u (suc j) xs)
 
-getD-startRows : (u : Shape) (i : ℕ) (xs : List ℕ) (j : ℕ) → j < length xs → getD (startRows u i xs) j blank ≡ startRow u (i + j) (getD xs j 0)
+pub getD-startRows : (u : Shape) (i : ℕ) (xs : List ℕ) (j : ℕ) → j < length xs → getD (startRows u i xs) j blank ≡ startRow u (i + j) (getD xs j 0)
 unfolding startRows
 getD-startRows u i [] j h = absurd (omega arith)
 getD-startRows u i (x ∷ xs) zero h = rw add-zero

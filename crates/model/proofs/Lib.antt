@@ -5,3 +5,4 @@ pub mod Turns
 pub mod Keeping
 pub mod Rooms
 pub mod SetupSays
+pub mod StartLaws
