@@ -1,0 +1,2 @@
+pub mod RoutineLaws
+pub mod StepLaws

@@ -46,8 +46,7 @@ stepped u b m r k =
     (record { row = crash r; bank = b; shared = m })
 
 -- what the records of `rest` return and leave, from the fresh state on
-abbrev pub ranBy : Shape → List ℕ → List ℕ → Progress → Ran
-ranBy u rest old p = record { outcome = outcomeOf (records rest) p; report = reportOf u old p }
-
 abbrev pub ranFrom : Shape → List ℕ → List ℕ → List ℕ → Ran
-ranFrom u starts rest old = ranBy u rest old (reach u (fresh u starts) rest (records rest))
+ranFrom u starts rest old =
+    let p : Progress = reach u (fresh u starts) rest (records rest) in
+    record { outcome = outcomeOf (records rest) p; report = reportOf u old p }

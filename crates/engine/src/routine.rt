@@ -5,6 +5,7 @@ ghost use mathlib.Core.Bool.{cond};
 ghost use Rattle.terms.specs.Limits.{mostSlots, topTick};
 ghost use Rattle.model.specs.Bounds.{Sound, Room};
 ghost use Rattle.model.specs.Time.{wakeAt};
+ghost use Rattle.model.specs.Run;
 ghost use Rattle.model.specs.Routine.{routineOf, askAt, told, slots, lockNext, plainNext, fastNext, nextOf, scanAt, scanFrom, rowAfter, isDecided};
 use bank::Bank;
 use model::Ask;
@@ -238,6 +239,7 @@ fn next(kind: Kind, shape: Shape, place: Place, r: Row, wake: u32, a: Reply) -> 
 // 1 for a late write.
 fn one_if(late: bool) -> u32
     ensures { λ n. ⌜ n ≡ cond late 1 0 ⌝ }
+    ensures { λ n. ⌜ n ≤ 1 ⌝ }
 {
     if late { 1 } else { 0 }
 }
@@ -289,7 +291,7 @@ fn is_decided(place: Place) -> bool
 
 // 13 (below the last), 14, 15, 16, of a step of the process with row r.
 pub fn judge(r: Row, last: u32, step: Step) -> u32
-    ensures { λ no. ⌜ no ≡ Rattle.model.specs.Run.judge r last step ⌝ }
+    ensures { λ no. ⌜ no ≡ Run.judge r last step ⌝ }
 {
     if step.tick < last {
         return 13;

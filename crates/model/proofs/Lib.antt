@@ -6,3 +6,4 @@ pub mod Keeping
 pub mod Rooms
 pub mod SetupSays
 pub mod StartLaws
+pub mod ReportLaws
