@@ -2,14 +2,14 @@
 -- into the run's answer by a refused one and at the end.
 -- Assumes nothing.
 use Prim.Native.Nat.{ℕ, _+_, _*_, _-_, _≤_, _<_}
-use mathlib.Core.Path.{_≡_, refl, sym, ap, subst, _∙_}
+use mathlib.Core.Path.{_≡_, refl, sym, ap, ap₂, subst, _∙_}
 use mathlib.Core.Bool.{Bool, true, false, cond}
 use mathlib.Core.List.{List}
 use native.Mathlib.Omega.{arith}
 use lib.ListN.{length, drop, set, length-set, length-drop}
 use Rattle.terms.specs.Limits.{mostProcesses, mostSteps, topTick}
 use Rattle.terms.specs.Numbers.{indexOf}
-use Rattle.terms.specs.Refusal.{ifAccepted}
+use Rattle.terms.specs.Overlay.{overlay}
 use Rattle.terms.proofs.RefusalLaws.{if-accepted}
 use Rattle.bank.specs.declared.Bank.{Bank}
 use Rattle.bank.specs.Registers.{bankOf, freshBank}
@@ -23,11 +23,11 @@ use Rattle.model.specs.declared.Ask.{Ask}
 use Rattle.model.specs.declared.Shared.{Shared}
 use Rattle.model.specs.declared.State.{State}
 use Rattle.model.specs.Time.{wakeAt}
-use Rattle.model.specs.Routine.{askAt, rowAfter, crash}
+use Rattle.model.specs.Routine.{routine, askAt, rowAfter, crash}
 use Rattle.model.specs.Memory.{Answered, answerOf}
 use Rattle.model.specs.Bounds.{Sound, Starts, Room}
 use Rattle.model.specs.Run.{rowAt, rowOf, startRows, fresh, move, moveAt, stop, after, isMove, judge, reach, records, Progress.going, Progress.stopped}
-use Rattle.model.specs.Report.{Ran, outcomeOf, reportOf}
+use Rattle.model.specs.Report.{lines, outcomeOf, reportOf}
 use Rattle.model.proofs.RunLaws.{recordAt, judgeAt, reach-start, refused-by-bytes, refused-by-judge, accepted-by-both, reach-stays, records-end, records-past}
 use Rattle.model.proofs.Rooms.{reach-room}
 use Rattle.model.proofs.ReportLaws.{ranBy, refusedRun, ran-stopped}
@@ -48,22 +48,20 @@ module _ (u : Shape) (b : Bank) (m : Shared) (r : Row) (k : Step) where
   unfolding stepped
   step-stops h e = rw (h, e)
 
--- a step's row put back is the state after it
+-- a step's row put back
+abbrev pub back : State → Step → Stepped → State
+back s k x = record { rows = set (s .rows) (indexOf (k .process)) (x .row); bank = x .bank; shared = x .shared; last = k .tick }
+
+-- is the state after it
 pub stepped-after : (u : Shape) (s : State) (k : Step) {x : Stepped} → x ≡ stepped u (s .bank) (s .shared) (rowOf s (k .process)) k
-    → record { rows = set (s .rows) (indexOf (k .process)) (x .row); bank = x .bank; shared = x .shared; last = k .tick } ≡ after u s k
+    → back s k x ≡ after u s k
 unfolding stepped after moveAt stop
-stepped-after u s k {x} e = put e ∙ by (isMove k)
+stepped-after u s k e = ap (back s k) e ∙ by (isMove k)
   where
-    abbrev back : Stepped → State
-    back x = record { rows = set (s .rows) (indexOf (k .process)) (x .row); bank = x .bank; shared = x .shared; last = k .tick }
+    r : Row
+    r = rowOf s (k .process)
 
-    abbrev moves : Stepped
-    moves = stepped u (s .bank) (s .shared) (rowOf s (k .process)) k
-
-    put : x ≡ moves → back x ≡ back moves
-    put e = ap back e
-
-    by : (b : Bool) → back (cond b (moved u (rowOf s (k .process) .local .place) (rowOf s (k .process)) (k .tick) (answerOf (s .bank) (s .shared) (k .process) (k .tick) (askAt (rowOf s (k .process) .local .place) (u .delta) (rowOf s (k .process))))) (record { row = crash (rowOf s (k .process)); bank = s .bank; shared = s .shared }))
+    by : (b : Bool) → back s k (cond b (moved u (r .local .place) r (k .tick) (answerOf (s .bank) (s .shared) (k .process) (k .tick) (askAt (r .local .place) (u .delta) r))) (record { row = crash r; bank = s .bank; shared = s .shared }))
         ≡ cond b (move u s (k .process) (k .tick)) (stop s (k .process) (k .tick))
     by true = refl
     by false = refl
@@ -74,17 +72,17 @@ abbrev pub stateOf : List Row → List ℕ → List ℕ → ℕ → List Bool �
 stateOf rows values deadlines touched flags last =
     record { rows = rows; bank = bankOf values deadlines touched; shared = sharedOf flags; last = last }
 
--- at byte `at` of the records k of them are accepted, and the state is s
-pub record Going (u : Shape) (xs rest : List ℕ) (s : State) (at k : ℕ) : Type 0 where
+-- at byte `at` of the records k of them are accepted, and led from state x to state s
+pub record Going (u : Shape) (x : State) (rest : List ℕ) (s : State) (at k : ℕ) : Type 0 where
   pub here : at ≡ k * 8
   pub inside : at ≤ length rest
   pub long : length (s .rows) ≡ mostProcesses
-  pub so-far : reach u (fresh u xs) rest k ≡ going s
+  pub so-far : reach u x rest k ≡ going s
 
-pub begins : (u : Shape) (xs rest : List ℕ) {s : State} → length (s .rows) ≡ mostProcesses → s ≡ fresh u xs → Going u xs rest s 0 0
-begins u xs rest l e = record { here = refl; inside = omega arith; long = l; so-far = reach-start u (fresh u xs) rest ∙ ap going (sym e) }
+pub begins : (u : Shape) (x : State) (rest : List ℕ) → length (x .rows) ≡ mostProcesses → Going u x rest x 0 0
+begins u x rest l = record { here = refl; inside = omega arith; long = l; so-far = reach-start u x rest }
 
-module _ (u : Shape) (xs rest : List ℕ) (s : State) (at k : ℕ) (g : Going u xs rest s at k) (left : at < length rest) (read : StepRead)
+module _ (u : Shape) (xs rest : List ℕ) (s : State) (at k : ℕ) (g : Going u (fresh u xs) rest s at k) (left : at < length rest) (read : StepRead)
     (reads : read ≡ stepRead (u .count) (drop at rest)) where
   bytes : drop at rest ≡ recordAt rest k
   bytes = ap (λ (i : ℕ). drop i rest) (g .here)
@@ -142,9 +140,7 @@ module _ (u : Shape) (xs rest : List ℕ) (s : State) (at k : ℕ) (g : Going u 
     -- accepted
     pub lands : {no : ℕ} {x : Stepped} → no ≡ judge (rowOf s (read .step .process)) (s .last) (read .step) → no ≡ 0
         → x ≡ stepped u (s .bank) (s .shared) (rowOf s (read .step .process)) (read .step)
-        → Going u xs rest
-        (record { rows = set (s .rows) (indexOf (read .step .process)) (x .row); bank = x .bank; shared = x .shared; last = read .step .tick })
-        (at + 8) (k + 1)
+        → Going u (fresh u xs) rest (back s (read .step) x) (at + 8) (k + 1)
     lands e z p =
         record {
           here = omega (arith, g .here);
@@ -155,9 +151,11 @@ module _ (u : Shape) (xs rest : List ℕ) (s : State) (at k : ℕ) (g : Going u 
               ∙ ap going (sym (stepped-after u s (read .step) p ∙ ap (after u s) fields));
         }
 
--- at the end of the bytes
-pub ends : (u : Shape) (xs rest : List ℕ) (s : State) (at k : ℕ) → Going u xs rest s at k → length rest ≤ at → (old : List ℕ)
-    → ranBy u rest old (going s) ≡ ranFrom u xs rest old
-ends u xs rest s at k g h old =
+-- at the end of the bytes, with the lines written
+pub ends : (u : Shape) (xs rest : List ℕ) (s : State) (at k : ℕ) → Going u (fresh u xs) rest s at k → length rest ≤ at → (old now : List ℕ)
+    → now ≡ overlay (lines (routine u) (s .rows) (u .count)) old → record { outcome = record { number = 0; at = k }; report = now } ≡ ranFrom u xs rest old
+unfolding outcomeOf reportOf
+ends u xs rest s at k g h old now e =
     let all : records rest ≡ k = records-end rest k (omega (arith, g .here, g .inside)) in
-    ap (ranBy u rest old) (sym (ap (reach u (fresh u xs) rest) all ∙ g .so-far))
+    ap₂ (λ (n : ℕ) (t : List ℕ). record { outcome = record { number = 0; at = n }; report = t }) (sym all) e
+    ∙ ap (ranBy u rest old) (sym (ap (reach u (fresh u xs) rest) all ∙ g .so-far))

@@ -26,7 +26,7 @@ read-granted-requires : tie.Need-read-granted-requires
 read-granted-requires c κs =
     let fits = subst AskFits (c .before .before .before .before .q .given .1) (c .before .before .before .before .before .before .pre .1 .1) in
     let pre = c .before .before .before .before .before .before .pre in
-    (record { least = pre .0 .least; most = pre .0 .most; slot = fits .0 }, record { top = pre .1 .0 }, record { limited = fits .1 })
+    (record { least = pre .0 .least; most = pre .0 .most; slot = fits .0 }, (record { top = pre .1 .0 }, record { limited = fits .1 }))
 
 -- src/memory.rt:51:20
 enum-known-q-2 : tie.Need-enum-known-q-2

@@ -28,7 +28,7 @@ ask-requires c κs = search needs
 answer-requires : tie.Need-answer-requires
 answer-requires c κs =
     let pre = c .before .before .before .before .before .before .before .before .before .pre in
-    (pre .1 .1 .numbered, pre .1 .1 .tick, subst AskFits (sym (c .before .before .before .before .ask .ensures)) (pre .1 .0 .asks))
+    (pre .1 .1 .numbered, (pre .1 .1 .tick, subst AskFits (sym (c .before .before .before .before .ask .ensures)) (pre .1 .0 .asks)))
 
 -- src/runs.rt:51:5
 take-requires : tie.Need-take-requires
