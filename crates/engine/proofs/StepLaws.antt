@@ -82,6 +82,9 @@ pub record Going (u : Shape) (x : State) (rest : List ℕ) (s : State) (at k : �
 pub begins : (u : Shape) (x : State) (rest : List ℕ) → length (x .rows) ≡ mostProcesses → Going u x rest x 0 0
 begins u x rest l = record { here = refl; inside = omega arith; long = l; so-far = reach-start u x rest }
 
+pub begun : {u : Shape} {x y : State} {rest : List ℕ} {s : State} {at k : ℕ} → x ≡ y → Going u x rest s at k → Going u y rest s at k
+begun {u} {rest = rest} {s} {at} {k} e g = subst (λ (x : State). Going u x rest s at k) e g
+
 module _ (u : Shape) (xs rest : List ℕ) (s : State) (at k : ℕ) (g : Going u (fresh u xs) rest s at k) (left : at < length rest) (read : StepRead)
     (reads : read ≡ stepRead (u .count) (drop at rest)) where
   bytes : drop at rest ≡ recordAt rest k
@@ -133,12 +136,12 @@ module _ (u : Shape) (xs rest : List ℕ) (s : State) (at k : ℕ) (g : Going u 
     roomy so st few = reach-room u so xs st rest k (g .so-far) (omega (arith, g .here)) (indexOf (read .step .process)) among
 
     -- refused by the state
-    pub unfit : (no : ℕ) → no ≡ judge (rowOf s (read .step .process)) (s .last) (read .step) → (no ≡ 0 → ⊥) → (old : List ℕ) → refusedRun no (k + 1) old ≡ ranFrom u xs rest old
-    unfit no e h =
+    pub unfit : (y : ℕ) → y ≡ judge (rowOf s (read .step .process)) (s .last) (read .step) → (y ≡ 0 → ⊥) → (old : List ℕ) → refusedRun y (k + 1) old ≡ ranFrom u xs rest old
+    unfit y e h =
         ended (refused-by-judge u (fresh u xs) rest k (g .so-far) accepted (λ z. h (e ∙ judged ∙ z)) ∙ ap (λ (x : ℕ). stopped x (k + 1)) (sym (e ∙ judged)))
 
     -- accepted
-    pub lands : {no : ℕ} {x : Stepped} → no ≡ judge (rowOf s (read .step .process)) (s .last) (read .step) → no ≡ 0
+    pub lands : {y : ℕ} {x : Stepped} → y ≡ judge (rowOf s (read .step .process)) (s .last) (read .step) → y ≡ 0
         → x ≡ stepped u (s .bank) (s .shared) (rowOf s (read .step .process)) (read .step)
         → Going u (fresh u xs) rest (back s (read .step) x) (at + 8) (k + 1)
     lands e z p =

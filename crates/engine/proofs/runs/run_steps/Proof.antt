@@ -1,4 +1,4 @@
-use Rattle.engine.proofs.StepLaws.{stateOf, Going, begins, unread, whole, due, roomy, unfit, lands, ends}
+use Rattle.engine.proofs.StepLaws.{stateOf, Going, begins, begun, unread, whole, due, roomy, unfit, lands, ends}
 use Rattle.engine.specs.Stepped.{Due}
 use Rattle.model.proofs.ReportLaws.{lines-more}
 use Rattle.model.proofs.Keeping.{length-startRows}
@@ -48,11 +48,22 @@ freshly c = ap (λ (rows : _). stateOf rows (replicate 8 0) (replicate 256 42949
 
 -- how far it is
 here : (c : tie.At-loop Inv-loop μ-loop Inv-loop2 μ-loop2) → Going (c .before .before .before .before .args .shape) (fresh (c .before .before .before .before .args .shape) (c .before .before .before .before .args .starts)) (now (c .before .before .before .before .args .rest)) (stateOf (c .loop .rows) (c .loop .values) (c .loop .deadlines) (c .loop .touched) (c .loop .flags) (c .loop .last)) (c .loop .at) (c .loop .k)
-here c = subst (λ (x : State). Going (c .before .before .before .before .args .shape) x (now (c .before .before .before .before .args .rest)) (stateOf (c .loop .rows) (c .loop .values) (c .loop .deadlines) (c .loop .touched) (c .loop .flags) (c .loop .last)) (c .loop .at) (c .loop .k)) (freshly (c .before)) (c .loop .inv)
+here c = begun (freshly (c .before)) (c .loop .inv)
 
 -- what was read
 found : (c : tie.After-read-step-of Inv-loop μ-loop Inv-loop2 μ-loop2) → c .read-step-of .result ≡ stepRead (c .before .before .before .before .before .before .before .args .shape .count) (drop (c .before .before .before .loop .at) (now (c .before .before .before .before .before .before .before .args .rest)))
 found c = c .read-step-of .ensures ∙ ap (stepRead (c .before .before .before .before .before .before .before .args .shape .count)) (part-to-end (c .before .before .before .loop .at) (now (c .before .before .before .before .before .before .before .args .rest)))
+
+-- an accepted step's numbers are in range, its record has its eight bytes, its row has room
+fit : (c : tie.Else1 Inv-loop μ-loop Inv-loop2 μ-loop2) → Due (c .before .before .read-step-of .result .step)
+fit c =
+    let m = c .before .before in
+    due _ _ _ _ _ _ (here (m .before .before .before)) (m .before .before .loop-test .taken) (m .read-step-of .result) (found m) (c .if1 .left) (m .before .before .before .before .before .before .before .pre .0 .few)
+
+full : (c : tie.Else1 Inv-loop μ-loop Inv-loop2 μ-loop2) → c .before .before .before .before .before .loop .at + 8 ≤ length (now (c .before .before .before .before .before .before .before .before .before .args .rest))
+full c =
+    let m = c .before .before in
+    whole _ _ _ _ _ _ (here (m .before .before .before)) (m .before .before .loop-test .taken) (m .read-step-of .result) (found m) (c .if1 .left)
 
 -- src/runs.rt:63:20
 start-rows-requires : tie.Need-start-rows-requires Inv-loop μ-loop Inv-loop2 μ-loop2
@@ -90,7 +101,7 @@ returns c = let m = c .before .before in
 
 -- src/runs.rt:81:18
 sub-j : tie.Need-sub-j Inv-loop μ-loop Inv-loop2 μ-loop2
-sub-j c = search needs
+sub-j c = omega (arith, fit (c .before .before))
 
 -- src/runs.rt:81:17
 cast-j : tie.Need-cast-j Inv-loop μ-loop Inv-loop2 μ-loop2
@@ -102,7 +113,7 @@ mul-r c = search needs
 
 -- src/runs.rt:82:17
 array-copy-out-r : tie.Need-array-copy-out-r Inv-loop μ-loop Inv-loop2 μ-loop2
-array-copy-out-r c = search needs
+array-copy-out-r c = omega (arith, fit (c .before .before), c .before .before .before .before .before .before .before .loop .inv .long)
 
 -- src/runs.rt:83:13
 judge-requires : tie.Need-judge-requires Inv-loop μ-loop Inv-loop2 μ-loop2
@@ -110,11 +121,21 @@ judge-requires c κs = search needs
 
 -- src/runs.rt:85:13
 returns-2 : tie.Need-returns-2 Inv-loop μ-loop Inv-loop2 μ-loop2
-returns-2 c = search needs
+returns-2 c = 
+    let m = c .before .before .before .before .before .before .before in
+    unfit _ _ _ _ _ _ (here (m .before .before .before)) (m .before .before .loop-test .taken) (m .read-step-of .result) (found m) (c .before .before .before .before .before .if1 .left) _ (c .before .judge .ensures) (c .if2 .taken) (now (m .before .before .before .before .before .before .before .args .report))
 
 -- src/runs.rt:87:19
 step-row-requires : tie.Need-step-row-requires Inv-loop μ-loop Inv-loop2 μ-loop2
-step-row-requires c κs = search needs
+step-row-requires c κs = 
+    let m = c .before .before .before .before .before .before .before .before .before .before .before in
+    let pre = m .before .before .before .before .before .before .before .pre in (
+      pre .0,
+      (
+        roomy _ _ _ _ _ _ (here (m .before .before .before)) (m .before .before .loop-test .taken) (m .read-step-of .result) (found m) (c .before .before .before .before .before .before .before .before .before .if1 .left) (pre .0) (pre .1 .0) (pre .1 .1 .0),
+        fit (c .before .before .before .before .before .before .before .before .before),
+      ),
+    )
 
 -- src/runs.rt:87:9
 mul-rows : tie.Need-mul-rows Inv-loop μ-loop Inv-loop2 μ-loop2
@@ -122,11 +143,11 @@ mul-rows c = search needs
 
 -- src/runs.rt:87:9
 array-set-from-rows : tie.Need-array-set-from-rows Inv-loop μ-loop Inv-loop2 μ-loop2
-array-set-from-rows c = search needs
+array-set-from-rows c = omega (arith, fit (c .before .before .before .before .before .before .before .before .before .before), c .before .before .before .before .before .before .before .before .before .before .before .before .before .before .before .loop .inv .long)
 
 -- src/runs.rt:89:14
 add-at : tie.Need-add-at Inv-loop μ-loop Inv-loop2 μ-loop2
-add-at c = search needs
+add-at c = omega (arith, full (c .before .before .before .before .before .before .before .before .before .before), c .before .before .before .before .before .before .before .before .before .before .before .before .before .before .before .before .before .before .before .pre .1 .1 .0)
 
 -- src/runs.rt:71:5
 loop-less : tie.Need-loop-less Inv-loop μ-loop Inv-loop2 μ-loop2
@@ -134,7 +155,11 @@ loop-less c = search needs
 
 -- src/runs.rt:71:5
 loop-again : tie.Need-loop-again Inv-loop μ-loop Inv-loop2 μ-loop2
-loop-again c = search needs
+loop-again c = 
+    let m = c .before .before .before .before .before .before .before .before .before .before .before .before in
+    let l = m .before .before .before in
+    begun (sym (freshly (l .before)))
+    (lands _ _ _ _ _ _ (here l) (m .before .before .loop-test .taken) (m .read-step-of .result) (found m) (c .before .before .before .before .before .before .before .before .before .before .if1 .left) (c .before .before .before .before .before .before .judge .ensures) (c .before .before .before .before .before .if2 .left) (c .step-row .ensures))
 
 -- src/runs.rt:91:13
 cast-n : tie.Need-cast-n Inv-loop μ-loop Inv-loop2 μ-loop2
@@ -142,7 +167,8 @@ cast-n c = search needs
 
 -- src/runs.rt:93:5
 loop2-holds : tie.Need-loop2-holds Inv-loop μ-loop Inv-loop2 μ-loop2
-loop2-holds c = search needs
+unfolding lines
+loop2-holds c = (search needs, refl, refl)
 
 -- src/runs.rt:94:17
 mul-r-2 : tie.Need-mul-r-2 Inv-loop μ-loop Inv-loop2 μ-loop2
@@ -170,7 +196,12 @@ loop2-less c = search needs
 
 -- src/runs.rt:93:5
 loop2-again : tie.Need-loop2-again Inv-loop μ-loop Inv-loop2 μ-loop2
-loop2-again c = search needs
+loop2-again c = 
+    let l = c .before .before .before .before .before .before in (
+      omega arith,
+      search needs,
+      c .before .before .write-line .ensures ∙ lines-more (routineOf (c .before .before .before .before .before .before .before .before .before .before .before .before .before .args .shape .kind)) (c .before .before .before .before .before .before .before .before .before .loop .rows) (l .loop2 .j) (now (c .before .before .before .before .before .before .before .before .before .before .before .before .before .args .report)) (l .loop2 .report) (l .loop2 .inv .2),
+    )
 
 -- src/runs.rt:55:1
 same-length : tie.Need-same-length Inv-loop μ-loop Inv-loop2 μ-loop2
@@ -178,7 +209,10 @@ same-length c = search needs
 
 -- src/runs.rt:55:1
 returns-3 : tie.Need-returns-3 Inv-loop μ-loop Inv-loop2 μ-loop2
-returns-3 c = search needs
+returns-3 c = 
+    let l = c .before .before .before .before in
+    let n : c .before .loop2 .j ≡ l .before .before .before .before .args .shape .count = omega arith in
+    ends _ _ _ _ _ _ (here l) (c .before .before .before .loop-test .left) _ _ (rw (← n) (c .before .loop2 .inv .2))
 
 pub run-steps-spec : {M : Type 1} → statement M
 run-steps-spec =
