@@ -10,3 +10,5 @@ pub mod Counts
 pub mod Rooms
 pub mod Cuts
 pub mod Points
+pub mod StartLaws
+pub mod ReportLaws
