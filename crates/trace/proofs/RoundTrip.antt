@@ -6,7 +6,7 @@ use mathlib.Core.Bool.{false}
 use mathlib.Core.List.{List, [], _∷_, _++_}
 use Prim.Native.Nat.{ℕ, _+_, _≤_, _<_}
 use native.Mathlib.Omega.{arith}
-use lib.ListN.{length, take, drop, replicate, length-append, length-take}
+use lib.ListN.{length, take, drop, replicate, length-append}
 use lib.Seq.{take-append-seam, drop-append-seam, take-add, take-at, drop-drop}
 use Rattle.terms.specs.Limits.{mostProcesses}
 use Rattle.terms.specs.Little.{littleOf, AllBytes}
@@ -23,7 +23,7 @@ use Rattle.trace.specs.declared.Setup.{Setup}
 use Rattle.trace.specs.declared.SetupRead.{SetupRead}
 use Rattle.trace.proofs.RecordLaws.{byte-small, wrote-whole, wrote-said}
 use Rattle.trace.proofs.SetupLaws.{Limits, Head, AcceptedSetup, setup-said, said-setup, setup-accepted, rest-accepted, start-count, WritableSetup, setup-write-said, said-setup-write}
-use Rattle.trace.proofs.StepLaws.{InLimits, AcceptedStep, step-said, said-step, step-accepted, WritableStep, step-write-said, said-step-write}
+use Rattle.trace.proofs.StepLaws.{InLimits, AcceptedStep, step-said, said-step, step-accepted, step-write-said, said-step-write}
 
 -- SETUPS
 

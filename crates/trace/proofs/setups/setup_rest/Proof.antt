@@ -5,7 +5,7 @@ use Prim.Native.Nat.{ℕ, _+_, _≤_}
 use native.Mathlib.Nat.{zero-add}
 use native.Mathlib.Omega.{arith}
 use borrow.Author.Needs.{needs}
-use lib.ListN.{length}
+use lib.ListN.{length, drop}
 use denote.Ref.{now}
 use Rattle.terms.specs.Limits.{mostProcesses}
 use Rattle.terms.proofs.Parts.{part-to-end}
@@ -39,7 +39,8 @@ returns-2 : tie.Need-returns-2
 returns-2 c =
     let d = c .before in
     let r = rest-accepted _ (accepted d) in
-    (rw (part-to-end, count d) (sym (r .0)), simp (count d, r .1))
+    let past : 8 + d .wide .result ≡ 8 + byte 3 (trace d) = ap (λ (n : ℕ). 8 + n) (count d) in
+    (part-to-end (8 + d .wide .result) (trace d) ∙ ap (λ (k : ℕ). drop k (trace d)) past ∙ sym (r .0), simp (count d, r .1))
 
 pub setup-rest-spec : {M : Type 1} → statement M
 setup-rest-spec =
