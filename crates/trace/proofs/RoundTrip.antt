@@ -6,7 +6,7 @@ use mathlib.Core.Bool.{false}
 use mathlib.Core.List.{List, [], _∷_, _++_}
 use Prim.Native.Nat.{ℕ, _+_, _≤_, _<_}
 use native.Mathlib.Omega.{arith}
-use lib.ListN.{length, take, drop, replicate, length-append, length-take}
+use lib.ListN.{length, take, drop, replicate, length-append}
 use lib.Seq.{take-append-seam, drop-append-seam, take-add, take-at, drop-drop}
 use Rattle.terms.specs.Limits.{mostProcesses}
 use Rattle.terms.specs.Little.{littleOf, AllBytes}
@@ -23,7 +23,7 @@ use Rattle.trace.specs.declared.Setup.{Setup}
 use Rattle.trace.specs.declared.SetupRead.{SetupRead}
 use Rattle.trace.proofs.RecordLaws.{byte-small, wrote-whole, wrote-said}
 use Rattle.trace.proofs.SetupLaws.{Limits, Head, AcceptedSetup, setup-said, said-setup, setup-accepted, rest-accepted, start-count, WritableSetup, setup-write-said, said-setup-write}
-use Rattle.trace.proofs.StepLaws.{InLimits, AcceptedStep, step-said, said-step, step-accepted, WritableStep, step-write-said, said-step-write}
+use Rattle.trace.proofs.StepLaws.{InLimits, AcceptedStep, step-said, said-step, step-accepted, step-write-said, said-step-write}
 
 -- SETUPS
 
@@ -35,6 +35,7 @@ given kind size delta starts =
 length-setupBytes : (kind size delta : ℕ) (starts : List ℕ) → length (setupBytes kind size delta starts) ≡ 8 + length starts
 length-setupBytes kind size delta starts = omega arith
 
+-- a setup within the limits, written before any bytes, reads back, and those bytes are the rest
 module _ (kind size delta : ℕ) (starts rest : List ℕ) where
   abbrev trace : List ℕ
   trace = setupBytes kind size delta starts ++ rest
@@ -142,6 +143,7 @@ module _ (s : List ℕ) (bytes : AllBytes s) (ok : setupRefusal mostProcesses s 
 
 -- STEPS
 
+-- a step within the limits, written before any bytes, reads back
 module _ (most : ℕ) (k : Step) (rest : List ℕ) (limits : InLimits most k) where
   told : stepFields (stepBytes k ++ rest) ≡ k
   told = simp (little-of-bytes 4 (k .tick) (omega arith))
@@ -151,6 +153,7 @@ module _ (most : ℕ) (k : Step) (rest : List ℕ) (limits : InLimits most k) wh
       let said : AcceptedStep most (stepBytes k ++ rest) = record { eight = omega arith; mark0 = refl; mark1 = refl; limits = rw told limits } in
       sym (step-accepted most _ (said-step most _ said)) ∙ simp told
 
+-- from the writer's own promise, over any buffer
 module _ (k : Step) (before after : List ℕ) (r : Written)
     (w : Wrote (stepWriteRefusal mostProcesses k (length before)) (stepBytes k) before r after)
     (ok : r .refusal ≡ 0) where
@@ -159,6 +162,7 @@ module _ (k : Step) (before after : List ℕ) (r : Written)
       let said = wrote-said _ _ _ _ _ w ok in
       ap (stepRead mostProcesses) (said .1) ∙ step-back mostProcesses k (drop 8 before) (step-write-said _ k (length before) (said .0) .limits)
 
+-- an accepted step, written again from what was read of it, gives its bytes
 module _ (most : ℕ) (s : List ℕ) (bytes : AllBytes s) (ok : stepRefusal most s ≡ 0) where
   pub step-again : stepBytes (stepRead most s .step) ≡ take 8 s
   step-again =

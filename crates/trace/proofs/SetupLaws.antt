@@ -6,7 +6,7 @@ use mathlib.Core.List.{List, []}
 use Prim.Native.Nat.{ℕ, zero, suc, _+_, _-_, _≤_, _<_}
 use native.Mathlib.Omega.{arith}
 use borrow.Author.Tests.{ltb-false, leb-false, eqb-true, le-ltb, lt-leb, eq-eqb, ne-eqb, not-false}
-use lib.ListN.{length, getD, take, drop, replicate, length-append, length-take, length-drop, length-replicate, List·getD-append}
+use lib.ListN.{length, getD, drop, replicate, length-append, length-take, length-drop, length-replicate, List·getD-append}
 use lib.Seq.{getD-take, getD-drop, getD-append-add}
 use lib.Dec.{ltb}
 use Rattle.terms.specs.Limits.{mostProcesses, mostSlots}
@@ -14,8 +14,7 @@ use Rattle.terms.specs.Little.{AllBytes}
 use Rattle.terms.specs.Refusal.{any}
 use Rattle.terms.proofs.RefusalLaws.{if-refused, then-both, passed, refuse-false, both-false, not-outside, inside}
 use Rattle.trace.specs.Record.{byte, setupMark}
-use Rattle.trace.specs.Setup.{badKind, badSize, badStart, setupLimits, startRefusal, headRefusal, startBytes, places, setupFields, noSetup, setupRefusal, setupRead, setupRest, restStart, setupWriteRefusal}
-use Rattle.trace.specs.declared.Setup.{Setup}
+use Rattle.trace.specs.Setup.{badKind, badSize, badStart, setupLimits, headRefusal, startBytes, places, setupFields, noSetup, setupRefusal, setupRead, setupRest, restStart, setupWriteRefusal}
 use Rattle.trace.specs.declared.SetupRead.{SetupRead}
 use Rattle.trace.proofs.RecordLaws.{marked-said, byte-small, none-bad, all-good}
 
@@ -205,8 +204,15 @@ module _ (s : List ℕ) (whole : 8 + byte 3 s ≤ length s) where
       ∙ getD-drop n (replicate most 0) (j - n) 0
       ∙ zeros most (n + (j - n))
 
+  -- start bytes that are good one by one are good together
+  pub said-starts : ((j : ℕ) → j < byte 3 s → badStart (byte 2 s) (byte 4 s) (byte (8 + j) s) ≡ false) → any (badStart (byte 2 s) (byte 4 s)) (startBytes s) ≡ false
+  said-starts h =
+      all-good (badStart (byte 2 s) (byte 4 s)) (startBytes s) (λ j inside.
+      let below : j < byte 3 s = omega (arith, start-count) in
+      rw (start-at j below) (h j below))
+
+-- and of an accepted setup the start byte of row j is a good one
 module _ (most : ℕ) (s : List ℕ) (a : AcceptedSetup most s) (j : ℕ) (below : j < byte 3 s) where
-  -- the start byte of row j is a good one
   pub start-good : badStart (byte 2 s) (byte 4 s) (byte (8 + j) s) ≡ false
   start-good =
       rw (← start-at s (a .head .whole) j below)

@@ -57,13 +57,16 @@ fn any_bad_start(kind: u8, size: u8, s: &[u8]) -> bool
 fn setup_limits(kind: u8, n: usize, size: u8, spare: u8) -> u32
     ensures { λ r. ⌜ r ≡ setupLimits mostProcesses kind n size spare ⌝ }
 {
-    if is_bad_kind(kind) {
+    let bad_kind = is_bad_kind(kind);
+    let bad_count = crate::is_outside(1, Trace::PROCESSES as usize, n);
+    let bad_size = is_bad_size(kind, size, spare);
+    if bad_kind {
         return 3;
     }
-    if crate::is_outside(1, Trace::PROCESSES as usize, n) {
+    if bad_count {
         return 4;
     }
-    if is_bad_size(kind, size, spare) {
+    if bad_size {
         return 5;
     }
     0
