@@ -13,7 +13,8 @@ use Rattle.terms.specs.declared.ProcessNumber.{ProcessNumber}
 use Rattle.terms.specs.declared.SlotNumber.{SlotNumber}
 use Rattle.bank.specs.declared.Bank.{Bank}
 use Rattle.bank.specs.declared.ReadAnswer.{ReadAnswer}
-use Rattle.bank.specs.Registers.{bankOf, pairOf, valueAt, deadlineAt, due, lateAt, afterRead, afterWrite}
+use Rattle.bank.specs.declared.WriteAnswer.{WriteAnswer}
+use Rattle.bank.specs.Registers.{unlimited, bankOf, pairOf, valueAt, deadlineAt, due, lateAt, afterRead, afterWrite}
 use Rattle.bank.specs.Granted.{Pair}
 use Rattle.bank.specs.Calls.{callRefusal, readRefusal, readOf, written, writeOf}
 use Rattle.bank.specs.History.{Call, caller, register, tickOf, leaves, refusalAt, after, Elsewhere, NotWrite, Sized}
@@ -106,6 +107,14 @@ module _ (b : Bank) (i : ProcessNumber) (c : SlotNumber) (t : ℕ) where
   pub accepted-read-gives-the-value : (d : ℕ) → readRefusal (b .last) i c t d ≡ 0 → readOf b i c t d .answer ≡ ReadAnswer.Value (valueAt b c)
   accepted-read-gives-the-value d h = λ x. read-result b i c t d h x .answer
 
+  pub refused-read-gives-its-number : (d : ℕ) → (readRefusal (b .last) i c t d ≡ 0 → ⊥)
+      → readOf b i c t d .answer ≡ ReadAnswer.Refused (readRefusal (b .last) i c t d)
+  refused-read-gives-its-number d h = λ x. sym (read-refused b i c t d (readRefusal (b .last) i c t d) refl h) x .answer
+
+  pub refused-write-gives-its-number : (v : ℕ) → (callRefusal (b .last) i c t ≡ 0 → ⊥)
+      → writeOf b i c t v .answer ≡ WriteAnswer.Refused (callRefusal (b .last) i c t)
+  refused-write-gives-its-number v h = λ x. sym (write-refused b i c t v (callRefusal (b .last) i c t) refl h) x .answer
+
   pub latest-read-counts : (d t′ d′ : ℕ) → Sized b → readRefusal (readOf b i c t d .bank .last) i c t′ d′ ≡ 0
       → deadlineAt (readOf (readOf b i c t d .bank) i c t′ d′ .bank) i c ≡ due t′ d′
   latest-read-counts d t′ d′ s h =
@@ -123,3 +132,6 @@ module _ (b : Bank) (i : ProcessNumber) (c : SlotNumber) (t : ℕ) where
     pub late-write-keeps-values : deadlineAt b i c < t → writeOf b i c t v .bank .values ≡ b .values
     unfolding afterWrite
     late-write-keeps-values l = rw (write-result b i c t v h, lt-ltb (deadlineAt b i c) t l)
+
+    pub late-write-frees-its-pair : Sized b → deadlineAt b i c < t → deadlineAt (writeOf b i c t v .bank) i c ≡ unlimited
+    late-write-frees-its-pair s l = accepted-call-leaves-its-deadline b (Call.writing i c t v) s h
