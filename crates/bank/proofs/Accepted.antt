@@ -1,6 +1,6 @@
 -- A call is accepted (its refusal is 0) just where its numbers are good.
 -- Assumes nothing.
-use Prim.Native.Nat.{ℕ, _<_, _≤_}
+use Prim.Native.Nat.{ℕ, _≤_}
 use mathlib.Core.Path.{_≡_, refl}
 use mathlib.Core.Bool.{Bool, true, false, not, _||_, _&&_, true≢false}
 use native.Mathlib.Omega.{arith}
@@ -14,6 +14,12 @@ use Rattle.terms.proofs.RefusalLaws.{passed, refuse-false, both-false, inside, 
 use Rattle.bank.specs.Registers.{unlimited, topWait}
 use Rattle.bank.specs.Granted.{Pair, Tick, Wait}
 use Rattle.bank.specs.Calls.{callRefusal, readRefusal}
+
+pub short-is-a-wait : (d : ℕ) → d ≤ topWait → Wait d
+short-is-a-wait d h = omega arith
+
+pub unlimited-is-a-wait : Wait unlimited
+unlimited-is-a-wait = omega arith
 
 module _ (last : ℕ) (i : ProcessNumber) (c : SlotNumber) (t : ℕ) where
   pub accepted-good : callRefusal last i c t ≡ 0 → Pair i c × (Tick t × (last ≤ t))

@@ -1,7 +1,7 @@
 -- The outcome of each call by the case that holds, in the form in which the code's proofs ask for it: what the code knows there are the premises.
 -- Assumes nothing.
-use Prim.Native.Nat.{ℕ, _+_, _*_, _<_, _≤_}
-use mathlib.Core.Path.{_≡_, refl, sym, ap, _∙_}
+use Prim.Native.Nat.{ℕ, _+_, _<_, _≤_}
+use mathlib.Core.Path.{_≡_, sym, ap, _∙_}
 use mathlib.Core.Bool.{Bool, true, false}
 use mathlib.Core.List.{List}
 use native.Mathlib.Nat.{le-of-lt}
@@ -17,7 +17,7 @@ use Rattle.terms.proofs.RefusalLaws.{if-refused}
 use Rattle.bank.specs.declared.Bank.{Bank}
 use Rattle.bank.specs.declared.ReadAnswer.{ReadAnswer}
 use Rattle.bank.specs.declared.WriteAnswer.{WriteAnswer}
-use Rattle.bank.specs.Registers.{unlimited, bankOf, pairOf, due, lateAt, afterRead, afterWrite}
+use Rattle.bank.specs.Registers.{unlimited, bankOf, pairOf, due, afterRead, afterWrite}
 use Rattle.bank.specs.Granted.{Pair, Tick, Wait, Seen, Stored, readGranted, writeGranted}
 use Rattle.bank.specs.Calls.{callRefusal, readRefusal, readOf, written, writeOf}
 use Rattle.bank.proofs.Accepted.{accepted-good, read-accepted-good}
@@ -84,15 +84,15 @@ module _ (b : Bank) (i : ProcessNumber) (c : SlotNumber) (t v r : ℕ) (known : 
   write-refused h = rw (← known, if-refused r h)
 
   module _ (h : r ≡ 0) (b′ : Bank) (l : Bool) (e : record { late = l; bank = b′ } ≡ writeGranted b i c t v) where
-    given : record { bank = b′; answer = written l } ≡ writeOf b i c t v
+    pub write-given : record { bank = b′; answer = written l } ≡ writeOf b i c t v
     unfolding writeOf
-    given = rw (← known, h) (ap (λ (s : Stored). record { bank = s .bank; answer = written (s .late) }) e)
+    write-given = rw (← known, h) (ap (λ (s : Stored). record { bank = s .bank; answer = written (s .late) }) e)
 
     pub given-late : l ≡ true → record { bank = b′; answer = WriteAnswer.Late } ≡ writeOf b i c t v
-    given-late k = rw k at given
+    given-late k = rw k at write-given
 
     pub given-done : l ≡ false → record { bank = b′; answer = WriteAnswer.Done } ≡ writeOf b i c t v
-    given-done k = rw k at given
+    given-done k = rw k at write-given
 
 pub ruleset outcomes = (
   needs,

@@ -1,7 +1,7 @@
 -- The refusals as the code tests them: each outcome of a test, and of a table, from what the code knows there.
 -- Assumes nothing.
 use Prim.Native.Nat.{ℕ, _<_, _≤_}
-use mathlib.Core.Path.{_≡_, sym, ap, _∙_}
+use mathlib.Core.Path.{_≡_, sym}
 use mathlib.Core.Bool.{not, _||_, _&&_}
 use lib.Dec.{eqb, leb, ltb}
 use borrow.Author.Needs.{needs}

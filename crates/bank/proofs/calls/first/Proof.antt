@@ -1,3 +1,4 @@
+-- `bank::calls::first` meets its contract. Assumes nothing.
 use Rattle.bank.proofs.Refused.{refusals}
 use borrow.Author.Needs.{needs}
 use Rattle.bank.proofs.calls.first.Statement.{statement}

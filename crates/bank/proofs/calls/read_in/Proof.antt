@@ -1,3 +1,4 @@
+-- `bank::calls::read_in` meets its contract: refused, or what the deadline rule gives. Assumes nothing.
 use Rattle.bank.proofs.Outcomes.{outcomes}
 use borrow.Author.Needs.{needs}
 use Rattle.bank.proofs.calls.read_in.Statement.{statement}

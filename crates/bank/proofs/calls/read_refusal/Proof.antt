@@ -1,3 +1,4 @@
+-- `bank::calls::read_refusal` meets its contract: its lines are the table's. Assumes nothing.
 use Rattle.bank.proofs.Refused.{refusals}
 use borrow.Author.Needs.{needs}
 use Rattle.bank.proofs.calls.read_refusal.Statement.{statement}

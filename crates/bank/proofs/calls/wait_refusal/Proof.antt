@@ -1,3 +1,4 @@
+-- `bank::calls::wait_refusal` meets its contract, a law for each outcome of the test. Assumes nothing.
 use Rattle.bank.proofs.Refused.{refusals}
 use Rattle.bank.proofs.calls.wait_refusal.Statement.{statement}
 use Rattle.bank.proofs.calls.wait_refusal.Tie as tie

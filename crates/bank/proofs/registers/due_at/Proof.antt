@@ -1,3 +1,4 @@
+-- `bank::registers::due_at` meets its contract. Assumes nothing.
 use Rattle.bank.proofs.Outcomes.{outcomes}
 use Rattle.bank.proofs.registers.due_at.Statement.{statement}
 use Rattle.bank.proofs.registers.due_at.Tie as tie

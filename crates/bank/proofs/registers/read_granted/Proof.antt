@@ -1,3 +1,4 @@
+-- `bank::registers::read_granted` meets its contract, by the deadline rule over a bank of its parts. Assumes nothing.
 use Rattle.bank.proofs.Outcomes.{outcomes}
 use borrow.Author.Needs.{needs}
 use Rattle.bank.proofs.registers.read_granted.Statement.{statement}
