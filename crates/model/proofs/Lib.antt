@@ -1,2 +1,6 @@
 pub mod Places
+pub mod World
+pub mod Pattern
+pub mod LockSafe
+pub mod DecideSafe
 pub mod Examples
