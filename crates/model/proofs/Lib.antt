@@ -3,4 +3,5 @@ pub mod World
 pub mod Pattern
 pub mod LockSafe
 pub mod DecideSafe
+pub mod FastSafe
 pub mod Examples
