@@ -4,4 +4,5 @@ pub mod Pattern
 pub mod LockSafe
 pub mod DecideSafe
 pub mod FastSafe
+pub mod View
 pub mod Examples
