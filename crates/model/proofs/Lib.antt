@@ -6,3 +6,6 @@ pub mod DecideSafe
 pub mod FastSafe
 pub mod View
 pub mod Examples
+pub mod RunLaws
+pub mod Turns
+pub mod Keeping
