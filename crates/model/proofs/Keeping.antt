@@ -2,11 +2,11 @@
 -- Assumes nothing.
 use Prim.Native.Nat.{ℕ, zero, suc, _+_, _%_, _≤_, _<_}
 use mathlib.Core.Path.{_≡_, refl, ap, _∙_}
-use mathlib.Core.Bool.{Bool, true, false, cond, _&&_, _||_}
+use mathlib.Core.Bool.{Bool, true, false, cond, _&&_}
 use mathlib.Core.List.{List, [], _∷_}
 use native.Mathlib.Omega.{arith}
 use native.Mathlib.Nat.{add-zero, add-suc, suc-add, zero-add, mod-lt}
-use lib.Dec.{T, eqb, leb, ltb}
+use lib.Dec.{T, leb, ltb}
 use lib.ListN.{length, getD, set, length-set, length-replicate, List·getD-eq-default}
 use borrow.Author.Tests.{ltb-true, ltb-false, leb-true, le-ltb}
 use Rattle.terms.specs.declared.ProcessNumber.{ProcessNumber}
@@ -32,27 +32,11 @@ use Rattle.model.specs.Routine.{Routine, routine, askAt, to, scans, Slot
 use Rattle.model.specs.Memory.{reply, bankAfter, sharedAfter}
 use Rattle.model.specs.Bounds.{Sound, startOk, Starts}
 use Rattle.model.specs.Run.{rowAt, rowOf, blank, startRow, startRows, fresh, move, moveAt, stop, after, isMove, judge, recordRefusal, reach, Progress.going}
+use Rattle.model.proofs.Places.{inKind}
 use Rattle.model.proofs.RunLaws.{recordAt, each-record}
 use Rattle.model.proofs.Turns.{each-row, move-or-stop}
 
 -- A ROW
-
--- a number of each place, for classes of places; the places of each routine
-abbrev pub codeOf : Place → ℕ
-codeOf Place.Rest = 0
-codeOf Place.Look = 1
-codeOf Place.Put = 2
-codeOf Place.Wait = 3
-codeOf Place.Check = 4
-codeOf Place.Critical = 5
-codeOf Place.Flag = 6
-codeOf Place.Scan = 7
-codeOf Place.Decided = 8
-
-abbrev pub inKind : Routine → Place → Bool
-inKind Routine.Lock p = leb (codeOf p) 5
-inKind Routine.Plain p = (leb 1 (codeOf p) && leb (codeOf p) 4) || eqb (codeOf p) 8
-inKind Routine.Fast p = (leb 1 (codeOf p) && leb (codeOf p) 4) || (leb 6 (codeOf p) && leb (codeOf p) 8)
 
 -- what the process of row j writes, and the slots that it may have
 abbrev pub OwnOk : Routine → Shape → ℕ → ℕ → Type 0

@@ -4,8 +4,9 @@ pub mod Pattern
 pub mod LockSafe
 pub mod DecideSafe
 pub mod FastSafe
-pub mod View
-pub mod Examples
 pub mod RunLaws
 pub mod Turns
 pub mod Keeping
+pub mod View
+pub mod Invariants
+pub mod Examples

@@ -26,7 +26,6 @@ use Rattle.model.specs.declared.State.{State}
 use Rattle.model.specs.Time.{wakeAt}
 use Rattle.model.specs.Routine.{Routine, routine, askAt, told, counted, crash, nextOf, isDecided}
 use Rattle.model.specs.Memory.{reply, bankAfter, sharedAfter}
-use Rattle.model.specs.Bounds.{AskFits}
 use Rattle.model.specs.Run.{blank, rowAt, rowOf, moveAt, stop}
 use Rattle.model.proofs.World.{Seat, Commons, World, Clock, Moves, raise, put, put-all, moved, crashed}
 
@@ -188,7 +187,7 @@ module _ (k : Clock) (u : Shape) (s : State) (i : ProcessNumber) (t : ℕ) (sh :
             ∙ ap (λ (y : ℕ → Bool). record { flag = y }) (getD-put (s .shared .flags) n true false (omega (arith, sh .flags))));
       }
 
-  pub sees : (f f′ : ℕ) (p : Place) (b : Bool) → told p (rowOf s i) (answer p) ≡ b → Mobile p → AskFits (askAt p (u .delta) (rowOf s i)) → Seen f f′ p b
+  pub sees : (f f′ : ℕ) (p : Place) (b : Bool) → told p (rowOf s i) (answer p) ≡ b → Mobile p → (p ≡ Place.Flag → rowOf s i .own ≤ 8) → Seen f f′ p b
   unfolding moveAt afterRead afterWrite
   sees f f′ Place.Rest b e h o = plainly f f′ Place.Rest b e refl refl Moves.leaves
   sees f f′ Place.Look true e h o = plainly f f′ Place.Look true e refl refl (Moves.finds (eqb-true _ _ e) (set-here (due t (u .delta)) _ (keeps-slot (routine u) u _ _ _ _ .0) ∙ due-is))
@@ -215,7 +214,7 @@ module _ (k : Clock) (u : Shape) (s : State) (i : ProcessNumber) (t : ℕ) (sh :
             rule = Moves.clears (ltb-false (deadlineAt (s .bank) i (rowOf s i .local .slot)) t q);
             looks = world-is _ _ _ _ _ _ f′ (seat-path Place.Critical b e) (rw q (getD-put (s .bank .values) (rowOf s i .local .slot .0) 0 0 in-values)) refl;
           }
-  sees f f′ Place.Flag b e h o = raising f f′ Place.Flag b (rowOf s i .own) e refl refl o Moves.raises
+  sees f f′ Place.Flag b e h o = raising f f′ Place.Flag b (rowOf s i .own) e refl refl (o refl) Moves.raises
   sees f f′ Place.Scan true e h o = plainly f f′ Place.Scan true e refl refl (Moves.passes (bit-clear _ e))
   sees f f′ Place.Scan false e h o = plainly f f′ Place.Scan false e refl refl (Moves.halts (bit-set _ e))
   sees f f′ Place.Decided b e h o = absurd h
