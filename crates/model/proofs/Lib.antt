@@ -9,4 +9,5 @@ pub mod Turns
 pub mod Keeping
 pub mod View
 pub mod Invariants
+pub mod Tally
 pub mod Examples
