@@ -33,6 +33,7 @@ use Rattle.model.proofs.FastSafe.{FastDecideInv, fast-moves, fast-crash
 use Rattle.model.proofs.RunLaws.{recordAt, each-record}
 use Rattle.model.proofs.Turns.{move-or-stop, last-after}
 use Rattle.model.proofs.Keeping.{RowOk, slot-small, Kept, kept-move, kept-stop, kept-fresh, fresh-rows, Admitted, admitted}
+use Rattle.model.proofs.Rooms.{own-small}
 use Rattle.model.proofs.View.{view, Shaped, Mobile, sees, sees-stop}
 
 -- the invariant of each routine
@@ -97,12 +98,6 @@ shaped u s so kt =
 mobile : (p : Place) → isDecided p ≡ false → Mobile p
 mobile p e = rw e tt
 
--- a flag that is raised is there
-flag-small : (κ : Routine) (u : Shape) → Sound u → (j : ℕ) (r : Row) → j < u .count → RowOk κ u j r → r .local .place ≡ Place.Flag → r .own ≤ 8
-flag-small Routine.Lock u so j r h ok e = absurd (rw e at (ok .place h))
-flag-small Routine.Plain u so j r h ok e = absurd (rw e at (ok .place h))
-flag-small Routine.Fast u so j r h ok e = omega (arith, ok .small, so .slim)
-
 -- at put, a process learns whether it was late
 late-told : (r : Row) (a : Reply) (p : Place) → T (putting p) → a .late ≡ told p r a
 late-told r a Place.Rest h = absurd h
@@ -133,7 +128,7 @@ module _ (c : Pace) (u : Shape) (so : Sound u) (P : World → Type 0) (al : Alon
         let a : Reply = reply (s .bank) (s .shared) i t (askAt p (u .delta) r) in
         let ok = good .kept .each (indexOf i) in
         let seen = sees (clock c (u .delta)) u s i t (shaped u s so (good .kept)) few refl (omega (arith, so .bounded)) f (c .next t) p (told p r a) refl
-        (mobile p (free .undecided)) (flag-small (routine u) u so (indexOf i) r h ok) in
+        (mobile p (free .undecided)) (λ e. own-small (routine u) u so ok (subst (λ (q : Place). T (inKind (routine u) q)) e (ok .place h))) in
         record {
           kept = kept-move u so s (good .kept) i t h;
           inv =

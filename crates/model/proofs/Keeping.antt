@@ -33,7 +33,8 @@ use Rattle.model.specs.Memory.{reply, bankAfter, sharedAfter}
 use Rattle.model.specs.Bounds.{Sound, startOk, Starts}
 use Rattle.model.specs.Run.{rowAt, rowOf, blank, startRow, startRows, fresh, move, moveAt, stop, after, isMove, judge, recordRefusal, reach, Progress.going}
 use Rattle.model.proofs.Places.{inKind}
-use Rattle.model.proofs.RunLaws.{recordAt, each-record}
+use Rattle.model.specs.Counts.{stepAt}
+use Rattle.model.proofs.RunLaws.{recordAt, Keeps, reach-start, reach-accepts, each-record}
 use Rattle.model.proofs.Turns.{each-row, move-or-stop}
 
 -- A ROW
@@ -243,7 +244,8 @@ module _ (u : Shape) (s : State) (bytes : List ℕ) where
         false-and _ _ (λ e. le-ltb _ _ (ad .awake e)),
       )
 
--- the lists keep their lengths
+-- THE LISTS KEEP THEIR LENGTHS
+
 cond-length : (b : Bool) (l : List ℕ) (n v : ℕ) → length (cond b l (set l n v)) ≡ length l
 cond-length true l n v = refl
 cond-length false l n v = length-set l n v
@@ -353,7 +355,21 @@ module _ (u : Shape) (so : Sound u) (xs : List ℕ) (st : Starts u xs) where
         beyond = fresh-rows (λ j r. u .count ≤ j → r ≡ blank) (λ j h l. refl) (λ j h ok l. absurd (omega arith));
       }
 
+  -- what holds at the start and is kept by each accepted record of a kept state holds after each of them
+  pub each-kept : (rest : List ℕ) (P : ℕ → State → Type 0) → P 0 (fresh u xs)
+      → ((k : ℕ) (s : State) → reach u (fresh u xs) rest k ≡ going s → Kept u s → Admitted u s (stepAt rest k) → P k s → P (suc k) (after u s (stepAt rest k)))
+      → (k : ℕ) {s : State} → reach u (fresh u xs) rest k ≡ going s → Kept u s × P k s
+  each-kept rest P start keep k e =
+      let all = each-record u (fresh u xs) rest Q (reach-start u (fresh u xs) rest, kept-fresh, start) kept k e in
+      (all .1, all .2)
+    where
+      Q : ℕ → State → Type 0
+      Q k s = (reach u (fresh u xs) rest k ≡ going s) × Kept u s × P k s
+
+      kept : Keeps u rest Q
+      kept k s h q =
+          let ad = admitted u s (recordAt rest k) h in
+          (reach-accepts u (fresh u xs) rest k (q .0) h, kept-after u so s (q .1) _ ad, keep k s (q .0) (q .1) ad (q .2))
+
   pub reach-kept : (rest : List ℕ) (k : ℕ) {s : State} → reach u (fresh u xs) rest k ≡ going s → Kept u s
-  reach-kept rest =
-      each-record u (fresh u xs) rest (λ k s. Kept u s) kept-fresh
-      (λ k s h kt. kept-after u so s kt (stepFields (recordAt rest k)) (admitted u s (recordAt rest k) h))
+  reach-kept rest k e = each-kept rest (λ k s. Unit {0}) tt (λ k s e kt ad z. tt) k e .0

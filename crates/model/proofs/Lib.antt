@@ -10,4 +10,6 @@ pub mod Keeping
 pub mod View
 pub mod Invariants
 pub mod Tally
+pub mod Rooms
+pub mod SetupSays
 pub mod Examples

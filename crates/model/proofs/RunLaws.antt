@@ -6,10 +6,11 @@ use mathlib.Core.List.{List}
 use native.Mathlib.Numerals.{add-one}
 use native.Mathlib.Nat.{add-zero, add-suc}
 use native.Mathlib.Omega.{arith}
-use lib.ListN.{length, drop}
+use lib.ListN.{length, drop, length-drop}
 use Rattle.terms.specs.Refusal.{_then_, ifAccepted}
-use Rattle.terms.proofs.RefusalLaws.{then-on, then-stop, if-accepted, if-refused}
+use Rattle.terms.proofs.RefusalLaws.{then-on, then-stop, then-both, if-accepted, if-refused}
 use Rattle.trace.specs.Step.{stepRefusal, stepFields}
+use Rattle.trace.proofs.StepLaws.{step-said}
 use Rattle.model.specs.declared.Shape.{Shape}
 use Rattle.model.specs.declared.State.{State}
 use Rattle.model.specs.Run.{Progress, Progress.going, Progress.stopped, rowOf, after, judge, recordRefusal, advance, reach, records, restOf, runRefusal, reached, runOf}
@@ -37,6 +38,10 @@ if-going zero k e = (refl, going-same e)
 if-going (suc x) k e = absurd (going-stopped (sym e))
 
 module _ (u : Shape) (x : State) (rest : List ℕ) where
+  pub reach-start : reach u x rest 0 ≡ going x
+  unfolding reach
+  reach-start = refl
+
   -- ONE RECORD MORE, where the first k are accepted
   module _ (k : ℕ) {s : State} (so-far : reach u x rest k ≡ going s) where
     one-more : reach u x rest (suc k) ≡ advance u (suc k) (going s) (recordAt rest k)
@@ -116,3 +121,52 @@ module _ (u : Shape) (x : State) (rest : List ℕ) where
   -- a run is in one state after k records
   pub reach-same : (k : ℕ) {s t : State} → reach u x rest k ≡ going s → reach u x rest k ≡ going t → s ≡ t
   reach-same k e f = going-same (sym e ∙ f)
+
+  -- an accepted record has its eight bytes
+  pub reach-long : (k : ℕ) {s : State} → reach u x rest k ≡ going s → k * 8 ≤ length rest
+  unfolding recordRefusal
+  reach-long zero e = omega arith
+  reach-long (suc k) e =
+      let eight = step-said (u .count) (recordAt rest k) (then-both _ _ (before k e .2) .0) .eight in
+      omega (arith, length-drop (k * 8) rest)
+
+-- HOW MANY RECORDS there are: at the end of the bytes, before it, and where all are accepted
+
+pub records-end : (rest : List ℕ) (k : ℕ) → length rest ≡ k * 8 → records rest ≡ k
+unfolding records
+records-end rest k h = omega arith
+
+pub records-past : (rest : List ℕ) (k : ℕ) → k * 8 < length rest → k + 1 ≤ records rest
+unfolding records
+records-past rest k h = omega arith
+
+pub records-whole : (u : Shape) (x : State) (rest : List ℕ) {s : State} → reach u x rest (records rest) ≡ going s → length rest ≡ records rest * 8
+unfolding records
+records-whole u x rest e = omega (arith, reach-long u x rest (records rest) e)
+
+-- A RUN
+
+module _ (trace : List ℕ) (room : ℕ) where
+  pub run-refused : (runRefusal trace room ≡ 0 → ⊥) → runOf trace room ≡ stopped (runRefusal trace room) 0
+  unfolding runOf
+  run-refused h = if-refused _ h _ _
+
+  pub run-reaches : runRefusal trace room ≡ 0 → runOf trace room ≡ reached trace (records (restOf trace))
+  unfolding runOf
+  run-reaches h = if-accepted _ h _ _
+
+  pub run-stops : runRefusal trace room ≡ 0 → (k : ℕ) {y j : ℕ} → reached trace k ≡ stopped y j → k ≤ records (restOf trace) → runOf trace room ≡ stopped y j
+  run-stops h k e l = run-reaches h ∙ reach-stays _ _ (restOf trace) k _ e l
+
+  pub run-ends : runRefusal trace room ≡ 0 → (k : ℕ) {s : State} → reached trace k ≡ going s → length (restOf trace) ≡ k * 8 → runOf trace room ≡ going s
+  run-ends h k e l = run-reaches h ∙ ap (reached trace) (records-end (restOf trace) k l) ∙ e
+
+  -- an accepted run reaches its state by all its records
+  pub run-going : {s : State} → runOf trace room ≡ going s → (runRefusal trace room ≡ 0) × (reached trace (records (restOf trace)) ≡ going s)
+  unfolding runOf
+  run-going {s} e = by (runRefusal trace room) refl e
+    where
+      by : (y : ℕ) → runRefusal trace room ≡ y → ifAccepted y (reached trace (records (restOf trace))) (stopped y 0) ≡ going s
+          → (runRefusal trace room ≡ 0) × (reached trace (records (restOf trace)) ≡ going s)
+      by zero z f = (z, f)
+      by (suc y) z f = absurd (going-stopped (sym f))
