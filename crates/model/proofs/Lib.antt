@@ -7,9 +7,11 @@ pub mod FastSafe
 pub mod RunLaws
 pub mod Turns
 pub mod Keeping
+pub mod Rooms
+pub mod SetupSays
 pub mod View
 pub mod Invariants
 pub mod Tally
-pub mod Rooms
-pub mod SetupSays
+pub mod Consequences
+pub mod Counts
 pub mod Examples

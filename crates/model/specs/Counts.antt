@@ -40,4 +40,4 @@ abbrev pub movesOf : List ℕ → ProcessNumber → ℕ → ℕ
 movesOf rest i k = howMany (λ j. moveOf i (stepAt rest j)) k
 
 abbrev pub latesOf : Shape → State → List ℕ → ProcessNumber → ℕ → ℕ
-latesOf u x rest i k = howMany (λ j. moveOf i (stepAt rest j) && lateIn u (reach u x rest j) (stepAt rest j)) k
+latesOf u x rest i k = howMany (λ j. lateIn u (reach u x rest j) (stepAt rest j) && moveOf i (stepAt rest j)) k

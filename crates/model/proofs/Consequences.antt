@@ -1,0 +1,158 @@
+-- What the invariants say of the rows of a state that accepted records led to, whatever the kind of the run.
+-- Assumes nothing.
+use Prim.Native.Nat.{ℕ, suc, _+_, _*_, _≤_, _<_}
+use mathlib.Core.Path.{_≡_, refl, sym, subst, _∙_}
+use mathlib.Core.Bool.{Bool, true, false, _||_}
+use mathlib.Core.List.{List}
+use native.Mathlib.Omega.{arith}
+use native.Mathlib.Decide.{decLt}
+use lib.Dec.{T, eqb}
+use lib.ListN.{getD}
+use lib.Seq.{getD-set-same}
+use borrow.Author.Tests.{le-ltb}
+use Rattle.terms.specs.declared.ProcessNumber.{ProcessNumber}
+use Rattle.terms.specs.Limits.{topTick}
+use Rattle.terms.specs.Numbers.{indexOf, slotOf}
+use Rattle.bank.specs.Registers.{valueAt, lateAt, afterWrite}
+use Rattle.model.specs.declared.Place.{Place}
+use Rattle.model.specs.declared.Shape.{Shape}
+use Rattle.model.specs.declared.Row.{Row}
+use Rattle.model.specs.declared.State.{State}
+use Rattle.model.specs.Routine.{Routine, routine, begin}
+use Rattle.model.specs.Bounds.{Sound, Starts}
+use Rattle.model.specs.Run.{rowAt, rowOf, fresh, moveAt, reach, Progress.going}
+use Rattle.model.specs.Counts.{stepAt}
+use Rattle.model.proofs.Places.{differ, codeOf, inKind, timedDecision, settled, inside}
+use Rattle.model.proofs.World.{World, Clock, ordinary, clock}
+use Rattle.model.proofs.LockSafe.{LockInv, exclusion, exit-in-time}
+use Rattle.model.proofs.DecideSafe.{DecideInv, agreement}
+use Rattle.model.proofs.Turns.{turn}
+use Rattle.model.proofs.Keeping.{RowOk, slot-small, Kept, fresh-rows, each-kept}
+use Rattle.model.proofs.View.{view}
+use Rattle.model.proofs.Invariants.{Inv, Good, nothing, reach-good}
+use Rattle.model.proofs.Tally.{Proposer, Proposed, proposed-along, proposed-start, Cap, Capped, capped-along, capped-start, Within, plain-within, fast-within}
+
+-- THE KIND, from a place
+
+-- the places of a routine, and of a blank row
+abbrev reachable : Routine → Place → Bool
+reachable κ p = inKind κ p || eqb (codeOf p) 0
+
+either : (a b : Bool) → T a → T (a || b)
+either true b h = tt
+either false b h = absurd h
+
+-- only the lock has a section, and only it does not decide
+lock-inv : (κ : Routine) (u : Shape) (w : World) (p : Place) → T (reachable κ p) → T (inside p) → Inv ordinary κ u w → LockInv (clock ordinary (u .delta)) w
+lock-inv Routine.Lock u w p a b inv = inv
+lock-inv Routine.Plain u w p a b inv = absurd (differ (reachable Routine.Plain) inside tt p a b)
+lock-inv Routine.Fast u w p a b inv = absurd (differ (reachable Routine.Fast) inside tt p a b)
+
+decide-inv : (κ : Routine) (u : Shape) (w : World) (p : Place) → T (reachable κ p) → T (settled p) → Inv ordinary κ u w
+    → T (timedDecision κ) × DecideInv (clock ordinary (u .delta)) w
+decide-inv Routine.Lock u w p a b inv = absurd (differ (reachable Routine.Lock) settled tt p a b)
+decide-inv Routine.Plain u w p a b inv = (tt, inv)
+decide-inv Routine.Fast u w p a b inv = (tt, inv .decide)
+
+-- what a process of a decision writes is its start byte
+own-begins : (κ : Routine) (j x : ℕ) → T (timedDecision κ) → begin κ j x .own ≡ x
+own-begins Routine.Lock j x h = absurd h
+own-begins Routine.Plain j x h = refl
+own-begins Routine.Fast j x h = refl
+
+module _ (u : Shape) (so : Sound u) (xs : List ℕ) (st : Starts u xs) (rest : List ℕ) (k : ℕ) {s : State} (e : reach u (fresh u xs) rest k ≡ going s) where
+  abbrev good : Good ordinary u so (λ w. Unit {0}) (nothing ordinary u) (s .last) s
+  good = reach-good u so (λ w. Unit {0}) (nothing ordinary u) xs st (λ w bare. tt) rest k e
+
+  abbrev seen : World
+  seen = view (s .last) s
+
+  reaches : (j : ℕ) → T (reachable (routine u) (rowAt s j .local .place))
+  reaches j = by (decLt j (u .count))
+    where
+      by : Dec (j < u .count) → T (reachable (routine u) (rowAt s j .local .place))
+      by (yes h) = either _ _ (good .kept .each j .place h)
+      by (no h) = rw (good .kept .beyond j (omega arith)) (blank-reaches (routine u))
+        where
+          blank-reaches : (κ : Routine) → T (reachable κ Place.Rest)
+          blank-reaches Routine.Lock = tt
+          blank-reaches Routine.Plain = tt
+          blank-reaches Routine.Fast = tt
+
+  -- THE LOCK
+  module _ (j : ℕ) (a : rowAt s j .local .place ≡ Place.Critical) where
+    of-lock : LockInv (clock ordinary (u .delta)) seen
+    of-lock = lock-inv (routine u) u seen (rowAt s j .local .place) (reaches j) (rw a tt) (good .inv)
+
+    -- two inside on one slot are one
+    pub one-inside : (i : ℕ) → rowAt s i .local .place ≡ Place.Critical → rowAt s i .local .slot .0 ≡ rowAt s j .local .slot .0 → i ≡ j
+    one-inside i b c = exclusion (clock ordinary (u .delta)) seen of-lock i j (rw b tt) (rw a tt) c
+
+    -- its number stands in its slot
+    pub number-stands : valueAt (s .bank) (rowAt s j .local .slot) ≡ suc j
+    number-stands = of-lock .inside j (rw a tt) .stands
+
+  -- leaving the section is not late, and empties the slot
+  module _ (i : ProcessNumber) (t : ℕ) (top : t ≤ topTick) (a : rowOf s i .local .place ≡ Place.Critical) where
+    pub leaves-in-time : lateAt (s .bank) i (rowOf s i .local .slot) t ≡ false
+    leaves-in-time = le-ltb _ _ (exit-in-time (clock ordinary (u .delta)) seen (of-lock (indexOf i) a) (indexOf i) t (rw a tt) (omega arith))
+
+    pub leaves-empty : valueAt (moveAt u Place.Critical s i t .bank) (rowOf s i .local .slot) ≡ 0
+    unfolding moveAt afterWrite
+    leaves-empty =
+        rw leaves-in-time
+        (getD-set-same (s .bank .values) (rowOf s i .local .slot .0) 0 0
+        (omega (arith, good .kept .values, slot-small (routine u) u so (indexOf i) (rowOf s i) (good .kept .each (indexOf i)))))
+
+  -- THE DECISIONS
+  module _ (j : ℕ) (a : rowAt s j .local .place ≡ Place.Decided) where
+    of-decision : T (timedDecision (routine u)) × DecideInv (clock ordinary (u .delta)) seen
+    of-decision = decide-inv (routine u) u seen (rowAt s j .local .place) (reaches j) (rw a tt) (good .inv)
+
+    -- two that decided decided alike
+    pub one-decision : (i : ℕ) → rowAt s i .local .place ≡ Place.Decided → rowAt s i .local .decided ≡ rowAt s j .local .decided
+    one-decision i b = agreement (clock ordinary (u .delta)) seen (of-decision .1) i j (rw b tt) (rw a tt)
+
+    -- what it decided stands in the register
+    pub decision-stands : valueAt (s .bank) (slotOf 0) ≡ rowAt s j .local .decided
+    decision-stands = sym (of-decision .1 .settled j (rw a tt) .stands)
+
+    proposer : Proposer (u .count) (rowAt s j .local .decided) (seen .seat)
+    proposer =
+        let p = reach-good u so (Proposed (u .count)) (proposed-along ordinary u (of-decision .0)) xs st (proposed-start u) rest k e .also in
+        rw (of-decision .1 .settled j (rw a tt) .stands) (p (of-decision .1 .filled j (rw a tt)))
+
+    own-stays : (i : ℕ) → rowAt s i .own ≡ rowAt (fresh u xs) i .own
+    own-stays =
+        each-kept u so xs st rest (λ k s. (i : ℕ) → rowAt s i .own ≡ rowAt (fresh u xs) i .own) (λ i. refl)
+        (λ k s e kt ad old.
+        turn u s (stepAt rest k) (omega (arith, kt .rows, ad .inside, so .few)) (λ i r. r .own ≡ rowAt (fresh u xs) i .own) (λ i n. old i) (λ b. old _)
+        (λ b. old _))
+        k e .1
+
+    -- and is the start byte of a process that moved
+    pub decision-proposed : (i : ℕ) × (i < u .count) × (getD xs i 0 ≡ rowAt s j .local .decided) × (1 ≤ rowAt s i .moves)
+    decision-proposed =
+        let p = proposer in
+        let i : ℕ = p .who in
+        let started =
+        fresh-rows u so xs st (λ i r. i < u .count → r .own ≡ getD xs i 0) (λ i h l. absurd (omega arith))
+        (λ i h ok l. own-begins (routine u) i (getD xs i 0) (of-decision .0)) in
+        (i, p .among, sym (started i (p .among)) ∙ sym (own-stays i) ∙ p .proposed, p .active)
+
+  -- MOVES
+  capped : T (timedDecision (routine u)) → Capped u seen
+  capped n = reach-good u so (Capped u) (capped-along ordinary u n) xs st (capped-start u) rest k e .also
+
+  -- f late writes and at most 5 + 2 f moves; b more for the flags
+  pub plain-bound : routine u ≡ Routine.Plain → (j : ℕ) → Within (rowAt s j .local .place) (5 + 2 * rowAt s j .lates) (rowAt s j .moves)
+  plain-bound q j =
+      let r : Row = rowAt s j in
+      plain-within (r .local .place) (seen .value 0) (r .moves) (r .lates) (subst (λ (κ : Routine). Cap κ u (seen .value 0) r) q (capped (rw q tt) j))
+
+  pub fast-bound : routine u ≡ Routine.Fast → (j : ℕ) → Within (rowAt s j .local .place) (u .size + 5 + 2 * rowAt s j .lates) (rowAt s j .moves)
+  fast-bound q j =
+      let r : Row = rowAt s j in
+      let ok = subst (λ (κ : Routine). RowOk κ u j r) q (good .kept .each j) in
+      fast-within (u .size) (r .local .place) (seen .value 0) (r .own) (r .local .scan) (r .moves) (r .lates) (ok .small)
+      (subst (λ (κ : Routine). Cap κ u (seen .value 0) r) q (capped (rw q tt) j))
