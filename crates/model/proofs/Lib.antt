@@ -12,6 +12,8 @@ pub mod SetupSays
 pub mod View
 pub mod Invariants
 pub mod Tally
+pub mod Shown
 pub mod Consequences
 pub mod Counts
+pub mod Theorems
 pub mod Examples
