@@ -2,6 +2,7 @@
 -- Assumes nothing.
 use Prim.Native.Nat.{ℕ, suc, _+_, _*_, _≤_, _<_}
 use mathlib.Core.Path.{_≡_, refl, sym, subst, _∙_}
+use mathlib.Core.Logic.{_≢_}
 use mathlib.Core.Bool.{Bool, true, false, _||_}
 use mathlib.Core.List.{List}
 use native.Mathlib.Omega.{arith}
@@ -31,7 +32,7 @@ use Rattle.model.proofs.Turns.{turn}
 use Rattle.model.proofs.Keeping.{RowOk, slot-small, Kept, fresh-rows, each-kept}
 use Rattle.model.proofs.View.{view}
 use Rattle.model.proofs.Invariants.{Inv, Along, nothing, Good, Bare, reach-good}
-use Rattle.model.proofs.Shown.{shows-inside, shows-decided}
+use Rattle.model.proofs.Shown.{shows-inside, shows-decided, decided-shows}
 use Rattle.model.proofs.Tally.{Proposer, Proposed, proposed-along, proposed-start, Cap, Capped, capped-along, capped-start, Within, plain-within, fast-within}
 
 -- THE KIND, from a place
@@ -205,3 +206,14 @@ module _ {u : Shape} {s : State} (point : Point u s) where
         let q = shows-decided (rowAt s j) b in
         let value = decision-figure (routine u) (rowAt s j .local .place) (reaches j) q in
         value (rowAt s i) ∙ one-decision j q i (shows-decided (rowAt s i) a) ∙ sym (value (rowAt s j))
+
+  pub shown-proposed : (j : ℕ) → shownPlace (rowAt s j) ≡ 8
+      → (i : ℕ) × (i < u .count) × (getD xs i 0 ≡ figureOf (routine u) (rowAt s j)) × (1 ≤ rowAt s i .moves)
+  shown-proposed j b =
+      let q = shows-decided (rowAt s j) b in
+      rw (decision-figure (routine u) (rowAt s j .local .place) (reaches j) q (rowAt s j)) (decision-proposed j q)
+
+  -- once it has made the most moves, a row that has not crashed shows 8
+  pub shown-done : (most j : ℕ) → Within (rowAt s j .local .place) most (rowAt s j .moves) → rowAt s j .moves ≡ most → shownPlace (rowAt s j) ≢ 9
+      → shownPlace (rowAt s j) ≡ 8
+  shown-done most j within e n = decided-shows (rowAt s j) (within .decided e) n

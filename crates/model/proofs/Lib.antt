@@ -16,4 +16,5 @@ pub mod Shown
 pub mod Consequences
 pub mod Counts
 pub mod Theorems
+pub mod Witnesses
 pub mod Examples

@@ -125,3 +125,11 @@ shows-inside = live inside 5 (λ e. omega arith) (λ p e. imply (λ q. eqb (show
 
 pub shows-decided : (r : Row) → shownPlace r ≡ 8 → T (settled (r .local .place))
 shows-decided = live settled 8 (λ e. omega arith) (λ p e. imply (λ q. eqb (shownOf q) 8) settled tt p (rw e tt))
+
+-- a row that has decided shows 8, or 9 where it crashed
+pub decided-shows : (r : Row) → r .local .place ≡ Place.Decided → shownPlace r ≢ 9 → shownPlace r ≡ 8
+decided-shows r e n = by (r .crashed) n
+  where
+    by : (b : Bool) → cond b 9 (shownOf (r .local .place)) ≢ 9 → cond b 9 (shownOf (r .local .place)) ≡ 8
+    by true q = absurd (q refl)
+    by false q = rw e

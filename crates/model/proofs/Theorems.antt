@@ -28,7 +28,7 @@ use Rattle.model.proofs.RunLaws.{run-going}
 use Rattle.model.proofs.SetupSays.{setup-sound, setup-starts, run-said}
 use Rattle.model.proofs.Counts.{Counted, reach-counts}
 use Rattle.model.proofs.Tally.{Within}
-use Rattle.model.proofs.Consequences.{Point, one-inside, number-stands, leaves-in-time, leaves-empty, one-decision, decision-stands, decision-proposed, plain-bound, fast-bound, shown-exclusion, shown-agreement}
+use Rattle.model.proofs.Consequences.{Point, one-inside, number-stands, leaves-in-time, leaves-empty, one-decision, decision-stands, decision-proposed, plain-bound, fast-bound, shown-exclusion, shown-agreement, shown-proposed, shown-done}
 use Rattle.model.proofs.Shown.{shown, accepted-goes, shows}
 
 -- WHEN
@@ -88,6 +88,15 @@ movesIn trace j k = movesOf (restOf trace) (processOf (j + 1)) k
 abbrev pub latesIn : List ℕ → ℕ → ℕ → ℕ
 latesIn trace j k = latesOf (shape trace) (startOf trace) (restOf trace) (processOf (j + 1)) k
 
+-- in the report: a row within its bound, and decided there
+pub record ShownWithin (most : ℕ) (trace old : List ℕ) (j : ℕ) : Type 0 where
+  pub bounded : shown trace old j 2 ≤ most
+  pub decided : shown trace old j 2 ≡ most → shown trace old j 0 ≢ 9 → shown trace old j 0 ≡ 8
+
+-- the start byte of the process at index j
+start-byte : {trace : List ℕ} {k : ℕ} {s : State} → At trace k s → (j : ℕ) → j < byte 3 trace → getD (setupFields trace .starts) j 0 ≡ byte (8 + j) trace
+start-byte {trace} at j h = place-at trace (setup-said mostProcesses trace (at .setup) .head .whole) mostProcesses j h
+
 -- THE THEOREMS
 
 -- EXCLUSION: no two processes are inside one slot, crashed or not; so of those that have not, neither
@@ -120,8 +129,7 @@ module _ {trace : List ℕ} {k : ℕ} {s : State} (at : At trace k s) where
   pub validity : (j v : ℕ) → Decides s j v → Proposed trace s v
   validity j v a =
       let p = decision-proposed (point at) j (rw (a .0) tt) in
-      let start = place-at trace (setup-said mostProcesses trace (at .setup) .head .whole) mostProcesses (p .0) (p .1) in
-      record { who = p .0; among = p .1; proposed = sym start ∙ p .2 ∙ a .1; moved = p .3 }
+      record { who = p .0; among = p .1; proposed = sym (start-byte at (p .0) (p .1)) ∙ p .2 ∙ a .1; moved = p .3 }
 
   -- MOVES: with f late writes a process makes at most 5 + 2 f moves in kind 2 and b + 5 + 2 f in kind 3, and has decided once it made that many,
   -- however the others behave
@@ -150,8 +158,19 @@ module _ (trace old : List ℕ) (bytes : Bytes trace) (accepted : ranOf trace ol
   abbrev end : (s : State) × (runOf trace (length old) ≡ going s)
   end = accepted-goes trace old accepted
 
+  abbrev at-end : At trace (records (restOf trace)) (end .0)
+  at-end = run-at trace (length old) bytes (end .1)
+
   abbrev last : Point (shape trace) (end .0)
-  last = point (run-at trace (length old) bytes (end .1))
+  last = point at-end
+
+  shown-within : (most j : ℕ) → j < byte 3 trace → Within (rowAt (end .0) j .local .place) most (rowAt (end .0) j .moves) → ShownWithin most trace old j
+  shown-within most j h w =
+      let x = shows trace old (end .1) j h in
+      record {
+        bounded = rw (x .moves) (w .bounded);
+        decided = λ e n. x .place ∙ shown-done last most j w (sym (x .moves) ∙ e) (λ z. n (x .place ∙ z));
+      }
 
   -- no two rows with place 5 and one c
   pub report-exclusion : (i j : ℕ) → i < byte 3 trace → j < byte 3 trace → shown trace old i 0 ≡ 5 → shown trace old j 0 ≡ 5
@@ -169,9 +188,18 @@ module _ (trace old : List ℕ) (bytes : Bytes trace) (accepted : ranOf trace ol
       let y = shows trace old (end .1) j g in
       x .figure ∙ shown-agreement last i j (sym (x .place) ∙ a) (sym (y .place) ∙ b) ∙ sym (y .figure)
 
-  -- no row past its bound
-  pub report-plain-moves : byte 2 trace ≡ 2 → (j : ℕ) → j < byte 3 trace → shown trace old j 2 ≤ 5 + 2 * shown trace old j 3
-  report-plain-moves two j h = let x = shows trace old (end .1) j h in rw (x .moves, x .lates) (plain-bound last (rw two) j .bounded)
+  -- a row with place 8 shows the start byte of a row with moves
+  pub report-validity : (j : ℕ) → j < byte 3 trace → shown trace old j 0 ≡ 8
+      → (i : ℕ) × (i < byte 3 trace) × (byte (8 + i) trace ≡ shown trace old j 1) × (1 ≤ shown trace old i 2)
+  report-validity j h a =
+      let x = shows trace old (end .1) j h in
+      let p = shown-proposed last j (sym (x .place) ∙ a) in
+      (p .0, p .1, sym (start-byte at-end (p .0) (p .1)) ∙ p .2 ∙ sym (x .figure), rw (shows trace old (end .1) (p .0) (p .1) .moves) (p .3))
 
-  pub report-fast-moves : byte 2 trace ≡ 3 → (j : ℕ) → j < byte 3 trace → shown trace old j 2 ≤ byte 4 trace + 5 + 2 * shown trace old j 3
-  report-fast-moves three j h = let x = shows trace old (end .1) j h in rw (x .moves, x .lates) (fast-bound last (rw three) j .bounded)
+  -- no row past its bound; and at its bound it shows 8, unless it crashed
+  pub report-plain-moves : byte 2 trace ≡ 2 → (j : ℕ) → j < byte 3 trace → ShownWithin (5 + 2 * shown trace old j 3) trace old j
+  report-plain-moves two j h = shown-within (5 + 2 * shown trace old j 3) j h (rw (shows trace old (end .1) j h .lates) (plain-bound last (rw two) j))
+
+  pub report-fast-moves : byte 2 trace ≡ 3 → (j : ℕ) → j < byte 3 trace → ShownWithin (byte 4 trace + 5 + 2 * shown trace old j 3) trace old j
+  report-fast-moves three j h =
+      shown-within (byte 4 trace + 5 + 2 * shown trace old j 3) j h (rw (shows trace old (end .1) j h .lates) (fast-bound last (rw three) j))
