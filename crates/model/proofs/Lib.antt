@@ -14,6 +14,7 @@ pub mod Invariants
 pub mod Tally
 pub mod Shown
 pub mod Consequences
+pub mod Later
 pub mod Counts
 pub mod Theorems
 pub mod Witnesses

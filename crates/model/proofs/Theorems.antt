@@ -2,11 +2,12 @@
 -- A trace is any list of bytes: any kind, n, ℓ, b and Δ that a setup may have, late writes and crashes anywhere.
 -- Assumes nothing.
 use Prim.Native.Nat.{ℕ, suc, _+_, _*_, _≤_, _<_}
-use mathlib.Core.Path.{_≡_, refl, sym, ap, _∙_}
+use mathlib.Core.Path.{_≡_, sym, subst, _∙_}
 use mathlib.Core.Logic.{_≢_}
 use mathlib.Core.Bool.{false}
 use mathlib.Core.List.{List}
 use native.Mathlib.Omega.{arith}
+use native.Mathlib.Decide.{decLt}
 use lib.ListN.{length, getD}
 use Rattle.terms.specs.declared.ProcessNumber.{ProcessNumber}
 use Rattle.terms.specs.Limits.{mostProcesses, topTick}
@@ -17,18 +18,17 @@ use Rattle.trace.specs.Setup.{setupRefusal, setupFields}
 use Rattle.trace.proofs.SetupLaws.{setup-said, place-at}
 use Rattle.model.specs.declared.Place.{Place}
 use Rattle.model.specs.declared.Shape.{Shape}
-use Rattle.model.specs.declared.Row.{Row}
 use Rattle.model.specs.declared.State.{State}
 use Rattle.model.specs.Bounds.{Bytes}
 use Rattle.model.specs.Run.{rowAt, rowOf, move, shapeOf, restOf, records, startOf, reached, runOf, Progress.going}
 use Rattle.model.specs.Counts.{movesOf, latesOf}
 use Rattle.model.specs.Report.{ranOf}
-use Rattle.model.proofs.Keeping.{Kept}
-use Rattle.model.proofs.RunLaws.{run-going}
+use Rattle.model.proofs.RunLaws.{reach-same, run-going}
 use Rattle.model.proofs.SetupSays.{setup-sound, setup-starts, run-said}
 use Rattle.model.proofs.Counts.{Counted, reach-counts}
 use Rattle.model.proofs.Tally.{Within}
 use Rattle.model.proofs.Consequences.{Point, one-inside, number-stands, leaves-in-time, leaves-empty, one-decision, decision-stands, decision-proposed, plain-bound, fast-bound, shown-exclusion, shown-agreement, shown-proposed, shown-done}
+use Rattle.model.proofs.Later.{decided-stays}
 use Rattle.model.proofs.Shown.{shown, accepted-goes, shows}
 
 -- WHEN
@@ -150,6 +150,22 @@ module _ {trace : List ℕ} {k : ℕ} {s : State} (at : At trace k s) where
 
   pub fast-records : byte 2 trace ≡ 3 → (i : ℕ) → movesIn trace i k ≤ byte 4 trace + 5 + 2 * latesIn trace i k
   fast-records three i = rw (← counts i .moves, ← counts i .lates) (fast-moves three i .bounded)
+
+-- FOR GOOD: who has decided keeps its decision, so no two decided values of one run differ, at whatever points of it
+
+module _ {trace : List ℕ} {j k : ℕ} {s t : State} (at : At trace j s) (at′ : At trace k t) where
+  pub decided-for-good : j ≤ k → (i v : ℕ) → Decides s i v → Decides t i v
+  decided-for-good h i v a =
+      let p = point at in
+      decided-stays (shape trace) (p .sound) _ (p .starts) (restOf trace) i v j
+      (λ s′ e. subst (λ (x : State). Decides x i v) (reach-same _ _ (restOf trace) j (at .led) e) a) k h (at′ .led)
+
+pub agreement-ever : {trace : List ℕ} {j k : ℕ} {s t : State} → At trace j s → At trace k t → (i m v w : ℕ) → Decides s i v → Decides t m w → v ≡ w
+agreement-ever {trace} {j} {k} {s} {t} at at′ i m v w a b = by (decLt j k)
+  where
+    by : Dec (j < k) → v ≡ w
+    by (yes h) = agreement at′ i m v w (decided-for-good at at′ (omega arith) i v a) b
+    by (no h) = agreement at i m v w a (decided-for-good at′ at (omega arith) m w b)
 
 -- IN THE REPORT'S OWN NUMBERS: of an accepted run, for rows i and j below n (`shown trace old j m` is number m of row j, m = 0: place, 1: c or the
 -- decided value, 2: moves, 3: late writes)
