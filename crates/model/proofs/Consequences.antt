@@ -29,7 +29,7 @@ use Rattle.model.proofs.World.{World, Clock, ordinary, clock}
 use Rattle.model.proofs.LockSafe.{LockInv, exclusion, exit-in-time}
 use Rattle.model.proofs.DecideSafe.{DecideInv, agreement}
 use Rattle.model.proofs.Turns.{turn}
-use Rattle.model.proofs.Keeping.{RowOk, slot-small, Kept, fresh-rows, each-kept}
+use Rattle.model.proofs.Keeping.{slot-small, Kept, fresh-rows, each-kept}
 use Rattle.model.proofs.View.{view}
 use Rattle.model.proofs.Invariants.{Inv, Along, nothing, Good, Bare, reach-good}
 use Rattle.model.proofs.Shown.{shows-inside, shows-decided, decided-shows}
@@ -184,14 +184,12 @@ module _ {u : Shape} {s : State} (point : Point u s) where
   pub plain-bound : routine u ≡ Routine.Plain → (j : ℕ) → Within (rowAt s j .local .place) (5 + 2 * rowAt s j .lates) (rowAt s j .moves)
   plain-bound q j =
       let r : Row = rowAt s j in
-      plain-within (r .local .place) (seen .value 0) (r .moves) (r .lates) (subst (λ (κ : Routine). Cap κ u (seen .value 0) r) q (capped (rw q tt) j))
+      plain-within u (seen .value 0) r (subst (λ (κ : Routine). Cap κ u (seen .value 0) r) q (capped (rw q tt) j))
 
   pub fast-bound : routine u ≡ Routine.Fast → (j : ℕ) → Within (rowAt s j .local .place) (u .size + 5 + 2 * rowAt s j .lates) (rowAt s j .moves)
   fast-bound q j =
       let r : Row = rowAt s j in
-      let ok = subst (λ (κ : Routine). RowOk κ u j r) q (good .kept .each j) in
-      fast-within (u .size) (r .local .place) (seen .value 0) (r .own) (r .local .scan) (r .moves) (r .lates) (ok .small)
-      (subst (λ (κ : Routine). Cap κ u (seen .value 0) r) q (capped (rw q tt) j))
+      fast-within u (seen .value 0) r (subst (λ (κ : Routine). Cap κ u (seen .value 0) r) q (capped (rw q tt) j))
 
   -- AS SHOWN
   module _ (i j : ℕ) where

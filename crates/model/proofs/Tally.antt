@@ -3,18 +3,18 @@
 use Prim.Native.Nat.{ℕ, _+_, _*_, _≤_, _<_}
 use mathlib.Core.Path.{_≡_, refl, sym, subst, _∙_}
 use mathlib.Core.Logic.{_≢_}
-use mathlib.Core.Bool.{Bool, true, false, not, cond}
+use mathlib.Core.Bool.{Bool, true, false, not, cond, _&&_, _||_}
 use native.Mathlib.Omega.{arith}
 use native.Mathlib.Decide.{decLt}
 use lib.Dec.{T, eqb, leb}
-use borrow.Author.Tests.{eqb-true, eqb-false, leb-true}
+use borrow.Author.Tests.{eqb-true, eqb-false, leb-true, le-leb}
 use Rattle.model.specs.declared.Place.{Place}
 use Rattle.model.specs.declared.Shape.{Shape}
 use Rattle.model.specs.declared.Local.{Local}
 use Rattle.model.specs.declared.Row.{Row}
 use Rattle.model.specs.Time.{wakeAt}
 use Rattle.model.specs.Routine.{Routine, routine, to, scans, counted, crash, scanAt, plainNext, fastNext, nextOf}
-use Rattle.model.proofs.Places.{imply, timedDecision, inKind, begins, putting, inside}
+use Rattle.model.proofs.Places.{and-left, and-right, everywhere, every-place, imply, differ, timedDecision, inKind, begins, putting, scanning, looking, past, settled, inside, decided-place}
 use Rattle.model.proofs.World.{Seat, Commons, World, Clock, Pace, clock, Moves, put, put-all, put-same, slotAt, ownOf}
 use Rattle.model.proofs.DecideSafe.{put-at}
 use Rattle.model.proofs.Keeping.{RowOk}
@@ -96,84 +96,87 @@ proposed-along c u n =
     go w m h old s e g (mine q) z =
         record { who = m; among = h; proposed = rw put-same (e ∙ sym q); active = rw put-same (omega arith) }
 
+pub proposed-start : (u : Shape) (w : World) → Bare (routine u) w → Proposed (u .count) w
+proposed-start u w bare z = absurd (z (bare .value 0))
+
 -- HOW MANY MOVES
 
--- at a scan: no own value, and the values passed are counted
-pub record ScanCap (size own s moves lates : ℕ) : Type 0 where
-  pub within : s ≤ size
+-- the most moves of a process at each place, beside two for each late write; in the fast decision, b more where the scan has begun
+abbrev pub plainMost : Place → ℕ
+plainMost Place.Rest = 0
+plainMost Place.Look = 2
+plainMost Place.Put = 1
+plainMost Place.Wait = 3
+plainMost Place.Check = 4
+plainMost Place.Critical = 0
+plainMost Place.Flag = 0
+plainMost Place.Scan = 0
+plainMost Place.Decided = 5
+
+abbrev pub fastMost : Place → ℕ
+fastMost Place.Rest = 0
+fastMost Place.Look = 3
+fastMost Place.Put = 2
+fastMost Place.Wait = 3
+fastMost Place.Check = 4
+fastMost Place.Critical = 0
+fastMost Place.Flag = 0
+fastMost Place.Scan = 2
+fastMost Place.Decided = 5
+
+-- a moves and l late writes: at most `most`, and at a look only `first` while the register, with the value y, is still empty
+pub record Most (most first : ℕ) (looks : Bool) (y a l : ℕ) : Type 0 where
+  pub all : a ≤ 2 * l + most
+  pub empty : T looks → y ≡ 0 → a ≤ 2 * l + first
+
+-- of a scan at value s: it never stands at the own value, and the values passed are counted
+pub record ScanCap (size own s a l : ℕ) : Type 0 where
   pub skips : s ≢ own
-  pub beyond : own < s → moves + 2 ≤ 2 * lates + 4 + s
-  pub before : s < own → moves + 1 ≤ 2 * lates + 4 + s
+  pub beyond : own < s → a + 2 ≤ 2 * l + 4 + s
+  pub before : s < own → a + 1 ≤ 2 * l + 4 + s
 
--- the most moves a of a process with l late writes at a place, where the register holds y
-abbrev pub PlainCap : Place → ℕ → ℕ → ℕ → Type 0
-PlainCap Place.Rest y a l = a ≤ 2 * l
-PlainCap Place.Look y a l = (a ≤ 2 * l + 2) × (y ≡ 0 → a ≤ 2 * l)
-PlainCap Place.Put y a l = a ≤ 2 * l + 1
-PlainCap Place.Wait y a l = a ≤ 2 * l + 3
-PlainCap Place.Check y a l = a ≤ 2 * l + 4
-PlainCap Place.Critical y a l = a ≤ 2 * l
-PlainCap Place.Flag y a l = a ≤ 2 * l
-PlainCap Place.Scan y a l = a ≤ 2 * l
-PlainCap Place.Decided y a l = a ≤ 2 * l + 5
-
--- and with the proposal o and the next value s of its scan
-abbrev pub FastCap : ℕ → Place → ℕ → ℕ → ℕ → ℕ → ℕ → Type 0
-FastCap size Place.Rest y o s a l = a ≤ 2 * l
-FastCap size Place.Look y o s a l = (a ≤ 2 * l + 3) × (y ≡ 0 → a ≤ 2 * l + 1)
-FastCap size Place.Put y o s a l = a ≤ 2 * l + 2
-FastCap size Place.Wait y o s a l = a ≤ 2 * l + 3 + size
-FastCap size Place.Check y o s a l = a ≤ 2 * l + 4 + size
-FastCap size Place.Critical y o s a l = a ≤ 2 * l
-FastCap size Place.Flag y o s a l = a ≤ 2 * l
-FastCap size Place.Scan y o s a l = ScanCap size o s a l
-FastCap size Place.Decided y o s a l = a ≤ 2 * l + 5 + size
+pub record FastCap (size : ℕ) (p : Place) (y own s a l : ℕ) : Type 0 where
+  pub most : Most (cond (past p) size 0 + fastMost p) 1 (looking p) y a l
+  pub scans : T (scanning p) → ScanCap size own s a l
 
 abbrev pub Cap : Routine → Shape → ℕ → Row → Type 0
 Cap Routine.Lock u y r = Unit {0}
-Cap Routine.Plain u y r = PlainCap (r .local .place) y (r .moves) (r .lates)
+Cap Routine.Plain u y r = Most (0 + plainMost (r .local .place)) 0 (looking (r .local .place)) y (r .moves) (r .lates)
 Cap Routine.Fast u y r = FastCap (u .size) (r .local .place) y (r .own) (r .local .scan) (r .moves) (r .lates)
 
 -- a register that is filled stays filled
-plain-stays : (p : Place) (y z a l : ℕ) → (z ≡ 0 → y ≡ 0) → PlainCap p y a l → PlainCap p z a l
-plain-stays Place.Rest y z a l h c = c
-plain-stays Place.Look y z a l h c = (c .0, λ e. c .1 (h e))
-plain-stays Place.Put y z a l h c = c
-plain-stays Place.Wait y z a l h c = c
-plain-stays Place.Check y z a l h c = c
-plain-stays Place.Critical y z a l h c = c
-plain-stays Place.Flag y z a l h c = c
-plain-stays Place.Scan y z a l h c = c
-plain-stays Place.Decided y z a l h c = c
-
-fast-stays : (size : ℕ) (p : Place) (y z o s a l : ℕ) → (z ≡ 0 → y ≡ 0) → FastCap size p y o s a l → FastCap size p z o s a l
-fast-stays size Place.Rest y z o s a l h c = c
-fast-stays size Place.Look y z o s a l h c = (c .0, λ e. c .1 (h e))
-fast-stays size Place.Put y z o s a l h c = c
-fast-stays size Place.Wait y z o s a l h c = c
-fast-stays size Place.Check y z o s a l h c = c
-fast-stays size Place.Critical y z o s a l h c = c
-fast-stays size Place.Flag y z o s a l h c = c
-fast-stays size Place.Scan y z o s a l h c = c
-fast-stays size Place.Decided y z o s a l h c = c
+most-stays : {m f : ℕ} {b : Bool} {y z a l : ℕ} → (z ≡ 0 → y ≡ 0) → Most m f b y a l → Most m f b z a l
+most-stays h c = record { all = c .all; empty = λ x e. c .empty x (h e) }
 
 cap-stays : (κ : Routine) (u : Shape) (y z : ℕ) (r : Row) → (z ≡ 0 → y ≡ 0) → Cap κ u y r → Cap κ u z r
 cap-stays Routine.Lock u y z r h c = tt
-cap-stays Routine.Plain u y z r h c = plain-stays (r .local .place) y z (r .moves) (r .lates) h c
-cap-stays Routine.Fast u y z r h c = fast-stays (u .size) (r .local .place) y z (r .own) (r .local .scan) (r .moves) (r .lates) h c
+cap-stays Routine.Plain u y z r h c = most-stays h c
+cap-stays Routine.Fast u y z r h c = record { most = most-stays h (c .most); scans = c .scans }
+
+-- at no look
+elsewhere : {m f y a l : ℕ} → a ≤ 2 * l + m → Most m f false y a l
+elsewhere h = record { all = h; empty = λ x. absurd x }
 
 module _ (k : Clock) (w : World) (m t : ℕ) (dg : Deciding (w .seat m .row)) (l : Bool) (u : ℕ) where
+  -- after one move more, at place p
+  abbrev PlainAt : Place → ℕ → Type 0
+  PlainAt p y = Most (0 + plainMost p) 0 (looking p) y (w .seat m .row .moves + 1) (w .seat m .row .lates + cond l 1 0)
+
+  -- a value that was written is there
+  written : {x : ℕ} → put (w .value) (slotAt (w .seat m)) (ownOf (w .seat m)) 0 ≡ 0 → x ≡ 0
+  written e = absurd (dg .real (sym (put-at (w .value) (slotAt (w .seat m)) (ownOf (w .seat m)) (dg .slot)) ∙ e))
+
   plain-cap : {p : Place} {b : Bool} {x : ℕ} {v : ℕ → ℕ} {g : Commons} {d : ℕ} → Moves k w m t p b x v g d → (T (putting p) → l ≡ b) → T (inKind Routine.Plain p)
-      → PlainCap p (w .value 0) (w .seat m .row .moves) (w .seat m .row .lates)
-      → PlainCap (plainNext p b x u (w .seat m .row .local) .place) (v 0) (w .seat m .row .moves + 1) (w .seat m .row .lates + cond l 1 0)
+      → Most (0 + plainMost p) 0 (looking p) (w .value 0) (w .seat m .row .moves) (w .seat m .row .lates)
+      → PlainAt (plainNext p b x u (w .seat m .row .local) .place) (v 0)
   plain-cap Moves.leaves q o c = absurd o
-  plain-cap (Moves.finds z d) q o c = omega (arith, c .1 (rw (dg .slot) at z))
-  plain-cap (Moves.meets z) q o c = omega (arith, c .0)
-  plain-cap Moves.fails q o c = rw (q tt) (omega arith)
-  plain-cap (Moves.stores h) q o c = (omega arith, λ e. absurd (dg .real (sym (put-at (w .value) (slotAt (w .seat m)) (ownOf (w .seat m)) (dg .slot)) ∙ e)))
-  plain-cap Moves.pauses q o c = omega arith
-  plain-cap (Moves.knows h e) q o c = omega arith
-  plain-cap (Moves.learns h) q o c = omega arith
+  plain-cap (Moves.finds z d) q o c = elsewhere (omega (arith, c .empty tt (rw (dg .slot) at z)))
+  plain-cap (Moves.meets z) q o c = elsewhere (omega (arith, c .all))
+  plain-cap Moves.fails q o c = rw (q tt) (record { all = omega (arith, c .all); empty = λ x e. omega (arith, c .all) })
+  plain-cap (Moves.stores h) q o c = record { all = omega (arith, c .all); empty = λ x e. absurd (omega (arith, written {x = 1} e)) }
+  plain-cap Moves.pauses q o c = elsewhere (omega (arith, c .all))
+  plain-cap (Moves.knows h e) q o c = elsewhere (omega (arith, c .all))
+  plain-cap (Moves.learns h) q o c = elsewhere (omega (arith, c .all))
   plain-cap (Moves.clears h) q o c = absurd o
   plain-cap (Moves.sticks h) q o c = absurd o
   plain-cap Moves.raises q o c = absurd o
@@ -188,18 +191,12 @@ cond-skip Q s own f g = go (eqb s own) refl
     go true e = f (eqb-true s own e)
     go false e = g (eqb-false s own e)
 
--- what a scan that goes on at s must meet
-record SeekCap (size own s moves lates : ℕ) : Type 0 where
-  skips : s ≢ own
-  beyond : own < s → moves + 2 ≤ 2 * lates + 4 + s
-  before : s < own → moves + 1 ≤ 2 * lates + 4 + s
-  total : moves ≤ 2 * lates + 4 + size
-
-scan-total : (size own s moves lates : ℕ) → own ≤ size → ScanCap size own s moves lates → moves + 2 ≤ 2 * lates + 4 + size
-scan-total size own s moves lates small c = go (decLt own s)
+-- the moves of a scan at s are fewer than the values
+scan-total : (size own s a l : ℕ) → own ≤ size → s ≤ size → ScanCap size own s a l → a + 2 ≤ 2 * l + 4 + size
+scan-total size own s a l small within c = go (decLt own s)
   where
-    go : Dec (own < s) → moves + 2 ≤ 2 * lates + 4 + size
-    go (yes h) = omega (arith, c .beyond h, c .within)
+    go : Dec (own < s) → a + 2 ≤ 2 * l + 4 + size
+    go (yes h) = omega (arith, c .beyond h)
     go (no h) =
         let n = c .skips in
         let b = c .before (omega arith) in
@@ -207,61 +204,61 @@ scan-total size own s moves lates small c = go (decLt own s)
 
 module _ (k : Clock) (size : ℕ) (w : World) (m t : ℕ) (dg : Deciding (w .seat m .row)) (small : ownOf (w .seat m) ≤ size) (l : Bool) (u : ℕ) where
   -- after one move more, with the local part x
-  abbrev Capped-at : Local → ℕ → Type 0
-  Capped-at x y = FastCap size (x .place) y (ownOf (w .seat m)) (x .scan) (w .seat m .row .moves + 1) (w .seat m .row .lates + cond l 1 0)
+  abbrev FastAt : Local → ℕ → Type 0
+  FastAt x y = FastCap size (x .place) y (ownOf (w .seat m)) (x .scan) (w .seat m .row .moves + 1) (w .seat m .row .lates + cond l 1 0)
 
-  scanFrom-cap : (s : ℕ) → SeekCap size (ownOf (w .seat m)) s (w .seat m .row .moves + 1) (w .seat m .row .lates + cond l 1 0)
-      → Capped-at (scanAt size s (w .seat m .row .local)) (w .value 0)
-  scanFrom-cap s c = go (leb s size) refl
+  -- a scan that goes on at s, or ends there
+  scan-cap : (s : ℕ) → ScanCap size (ownOf (w .seat m)) s (w .seat m .row .moves + 1) (w .seat m .row .lates + cond l 1 0)
+      → w .seat m .row .moves + 1 ≤ 2 * (w .seat m .row .lates + cond l 1 0) + 4 + size → FastAt (scanAt size s (w .seat m .row .local)) (w .value 0)
+  scan-cap s c total = go (leb s size) refl
     where
-      go : (y : Bool) → leb s size ≡ y → Capped-at (cond y (scans s (to Place.Scan (w .seat m .row .local))) (to Place.Check (w .seat m .row .local))) (w .value 0)
-      go true e = record { within = leb-true s size e; skips = c .skips; beyond = c .beyond; before = c .before }
-      go false e = c .total
+      go : (y : Bool) → leb s size ≡ y → FastAt (cond y (scans s (to Place.Scan (w .seat m .row .local))) (to Place.Check (w .seat m .row .local))) (w .value 0)
+      go true e =
+          let z = scan-total size (ownOf (w .seat m)) s _ _ small (leb-true s size e) c in
+          record { most = elsewhere (omega arith); scans = λ x. c }
+      go false e = record { most = elsewhere (omega arith); scans = λ x. absurd x }
 
   fast-cap : {p : Place} {b : Bool} {x : ℕ} {v : ℕ → ℕ} {g : Commons} {d : ℕ} → Moves k w m t p b x v g d → (T (putting p) → l ≡ b) → T (inKind Routine.Fast p)
       → FastCap size p (w .value 0) (ownOf (w .seat m)) (w .seat m .row .local .scan) (w .seat m .row .moves) (w .seat m .row .lates)
-      → Capped-at (fastNext size (ownOf (w .seat m)) p b x u (w .seat m .row .local)) (v 0)
+      → FastAt (fastNext size (ownOf (w .seat m)) p b x u (w .seat m .row .local)) (v 0)
   fast-cap Moves.leaves q o c = absurd o
-  fast-cap (Moves.finds z d) q o c = omega (arith, c .1 (rw (dg .slot) at z))
+  fast-cap (Moves.finds z d) q o c = record { most = elsewhere (omega (arith, c .most .empty tt (rw (dg .slot) at z))); scans = λ x. absurd x }
   fast-cap (Moves.meets z) q o c =
-      let a = c .0 in
+      let a = c .most .all in
       let r = dg .real in
       cond-skip
-      (λ s. Capped-at (scanAt size s (w .seat m .row .local)) (w .value 0)) 1
-      (ownOf (w .seat m))
-      (λ e. scanFrom-cap 2 (record { skips = omega arith; beyond = λ h. omega arith; before = λ h. omega arith; total = omega arith }))
-      (λ n. scanFrom-cap 1 (record { skips = n; beyond = λ h. absurd (omega arith); before = λ h. omega arith; total = omega arith }))
-  fast-cap Moves.fails q o c = rw (q tt) (omega arith)
-  fast-cap (Moves.stores h) q o c = (omega arith, λ e. absurd (dg .real (sym (put-at (w .value) (slotAt (w .seat m)) (ownOf (w .seat m)) (dg .slot)) ∙ e)))
-  fast-cap Moves.pauses q o c = omega arith
-  fast-cap (Moves.knows h e) q o c = omega arith
-  fast-cap (Moves.learns h) q o c = omega arith
+      (λ s. FastAt (scanAt size s (w .seat m .row .local)) (w .value 0)) 1 (ownOf (w .seat m))
+      (λ e. scan-cap 2 (record { skips = omega arith; beyond = λ h. omega arith; before = λ h. omega arith }) (omega arith))
+      (λ n. scan-cap 1 (record { skips = n; beyond = λ h. absurd (omega arith); before = λ h. omega arith }) (omega arith))
+  fast-cap Moves.fails q o c =
+      rw (q tt)
+      (record { most = record { all = omega (arith, c .most .all); empty = λ x e. omega (arith, c .most .all) }; scans = λ x. absurd x })
+  fast-cap (Moves.stores h) q o c =
+      record {
+        most = record { all = omega (arith, c .most .all); empty = λ x e. absurd (omega (arith, written k w m t dg l u {x = 1} e)) };
+        scans = λ x. absurd x;
+      }
+  fast-cap Moves.pauses q o c = record { most = elsewhere (omega (arith, c .most .all)); scans = λ x. absurd x }
+  fast-cap (Moves.knows h e) q o c = record { most = elsewhere (omega (arith, c .most .all)); scans = λ x. absurd x }
+  fast-cap (Moves.learns h) q o c = record { most = elsewhere (omega (arith, c .most .all)); scans = λ x. absurd x }
   fast-cap (Moves.clears h) q o c = absurd o
   fast-cap (Moves.sticks h) q o c = absurd o
-  fast-cap Moves.raises q o c = (omega arith, λ e. omega arith)
+  fast-cap Moves.raises q o c =
+      record { most = record { all = omega (arith, c .most .all); empty = λ x e. omega (arith, c .most .all) }; scans = λ x. absurd x }
   fast-cap (Moves.passes h) q o c =
       let s : ℕ = w .seat m .row .local .scan in
-      let n = c .skips in
-      let z = scan-total size (ownOf (w .seat m)) s _ _ small c in
+      let z = c .scans tt in
+      let n = z .skips in
+      let a = c .most .all in
       cond-skip
-      (λ s. Capped-at (scanAt size s (w .seat m .row .local)) (w .value 0)) (s + 1) (ownOf (w .seat m))
+      (λ s. FastAt (scanAt size s (w .seat m .row .local)) (w .value 0)) (s + 1) (ownOf (w .seat m))
       (λ e.
-      scanFrom-cap (s + 1 + 1)
-      (record {
-        skips = omega arith;
-        beyond = λ g. omega (arith, c .before (omega arith));
-        before = λ g. absurd (omega arith);
-        total = omega arith;
-      }))
+      scan-cap (s + 1 + 1)
+      (record { skips = omega arith; beyond = λ g. omega (arith, z .before (omega arith)); before = λ g. absurd (omega arith) }) (omega arith))
       (λ e.
-      scanFrom-cap (s + 1)
-      (record {
-        skips = e;
-        beyond = λ g. omega (arith, c .beyond (omega arith));
-        before = λ g. omega (arith, c .before (omega arith));
-        total = omega arith;
-      }))
-  fast-cap (Moves.halts h) q o c = omega (arith, scan-total size (ownOf (w .seat m)) (w .seat m .row .local .scan) _ _ small c)
+      scan-cap (s + 1)
+      (record { skips = e; beyond = λ g. omega (arith, z .beyond (omega arith)); before = λ g. omega (arith, z .before (omega arith)) }) (omega arith))
+  fast-cap (Moves.halts h) q o c = record { most = elsewhere (omega (arith, c .most .all)); scans = λ x. absurd x }
 
 cap-moves : (c : Pace) (κ : Routine) (u : Shape) (w : World) (m t : ℕ) (l : Bool) {p : Place} {b : Bool} {x : ℕ} {v : ℕ → ℕ} {g : Commons} {d : ℕ} → m < u .count
     → T (timedDecision κ) → RowOk κ u m (w .seat m .row) → w .seat m .row .local .place ≡ p → (T (putting p) → l ≡ b) → Moves (clock c (u .delta)) w m t p b x v g d
@@ -270,7 +267,7 @@ cap-moves : (c : Pace) (κ : Routine) (u : Shape) (w : World) (m t : ℕ) (l : B
 cap-moves c Routine.Lock u w m t l h n ok e q rule cp = tt
 cap-moves c Routine.Plain u w m t l h n ok e q rule cp =
     plain-cap (clock c (u .delta)) w m t (deciding Routine.Plain u m (w .seat m .row) n h ok) l _ rule q (rw e at (ok .place h))
-    (subst (λ (p : Place). PlainCap p (w .value 0) (w .seat m .row .moves) (w .seat m .row .lates)) e cp)
+    (subst (λ (p : Place). Most (0 + plainMost p) 0 (looking p) (w .value 0) (w .seat m .row .moves) (w .seat m .row .lates)) e cp)
 cap-moves c Routine.Fast u w m t l h n ok e q rule cp =
     fast-cap (clock c (u .delta)) (u .size) w m t (deciding Routine.Fast u m (w .seat m .row) n h ok) (ok .small) l _ rule q (rw e at (ok .place h))
     (subst
@@ -284,16 +281,6 @@ still-filled : {w : World} {m y : ℕ} → ownOf (w .seat m) ≢ 0 → From w m 
 still-filled r (same e) z = sym e ∙ z
 still-filled r (mine e) z = absurd (r (sym e ∙ z))
 
-capped-move : (c : Pace) (u : Shape) → T (timedDecision (routine u)) → (w : World) (m t : ℕ) (l : Bool) {p : Place} {b : Bool} {x : ℕ} {v : ℕ → ℕ} {g : Commons} {d : ℕ} → m < u .count
-    → w .seat m .row .local .place ≡ p → (T (putting p) → l ≡ b) → RowOk (routine u) u m (w .seat m .row) → Moves (clock c (u .delta)) w m t p b x v g d
-    → Capped u w
-    → Capped u (afterMove c (routine u) u w m t l p b x v g d)
-capped-move c u n w m t l {v = v} h e q ok rule old =
-    let dg = deciding (routine u) u m (w .seat m .row) n h ok in
-    let y = from (dg .slot) (rw e at (dg .outside)) rule in
-    put-all {A = Seat} (λ i y. Cap (routine u) u (v 0) (y .row)) (cap-moves c (routine u) u w m t l h n ok e q rule (old m))
-    (λ i o. cap-stays (routine u) u (w .value 0) (v 0) (w .seat i .row) (still-filled (dg .real) y) (old i))
-
 cap-crash : (κ : Routine) (u : Shape) (y : ℕ) (r : Row) → Cap κ u y r → Cap κ u y (crash r)
 cap-crash Routine.Lock u y r c = tt
 cap-crash Routine.Plain u y r c = c
@@ -302,10 +289,29 @@ cap-crash Routine.Fast u y r c = c
 pub capped-along : (c : Pace) (u : Shape) → T (timedDecision (routine u)) → Along c u (Capped u)
 capped-along c u n =
     record {
-      on-move = λ w m t l h e q ok inv rule old. capped-move c u n w m t l h e q ok rule old;
+      on-move =
+          λ w m t l {v = v} h e q ok inv rule old.
+          let dg = deciding (routine u) u m (w .seat m .row) n h ok in
+          let y = from (dg .slot) (rw e at (dg .outside)) rule in
+          put-all {A = Seat} (λ i y. Cap (routine u) u (v 0) (y .row)) (cap-moves c (routine u) u w m t l h n ok e q rule (old m))
+          (λ i o. cap-stays (routine u) u (w .value 0) (v 0) (w .seat i .row) (still-filled (dg .real) y) (old i));
       on-crash =
           λ w m t old. put-all {A = Seat} (λ i y. Cap (routine u) u (w .value 0) (y .row)) (cap-crash (routine u) u (w .value 0) (w .seat m .row) (old m)) (λ i o. old i);
     }
+
+-- before the first move
+cap-zero : (κ : Routine) (u : Shape) (y : ℕ) (r : Row) → Unmoved κ r → Cap κ u y r
+cap-zero Routine.Lock u y r z = tt
+cap-zero Routine.Plain u y r z = rw (z .moves, z .lates) (record { all = omega arith; empty = λ x e. omega arith })
+cap-zero Routine.Fast u y r z =
+    rw (z .moves, z .lates)
+    (record {
+      most = record { all = omega arith; empty = λ x e. omega arith };
+      scans = λ x. absurd (differ (begins Routine.Fast) scanning tt (r .local .place) (z .place) x);
+    })
+
+pub capped-start : (u : Shape) (w : World) → Bare (routine u) w → Capped u w
+capped-start u w bare i = cap-zero (routine u) u (w .value 0) (w .seat i .row) (bare .rows i)
 
 -- WHAT FOLLOWS
 
@@ -313,60 +319,36 @@ pub record Within (place : Place) (most moves : ℕ) : Type 0 where
   pub bounded : moves ≤ most
   pub decided : moves ≡ most → place ≡ Place.Decided
 
-pub plain-within : (p : Place) (y a l : ℕ) → PlainCap p y a l → Within p (5 + 2 * l) a
-plain-within Place.Rest y a l c = record { bounded = omega arith; decided = λ e. absurd (omega arith) }
-plain-within Place.Look y a l c = record { bounded = omega arith; decided = λ e. absurd (omega arith) }
-plain-within Place.Put y a l c = record { bounded = omega arith; decided = λ e. absurd (omega arith) }
-plain-within Place.Wait y a l c = record { bounded = omega arith; decided = λ e. absurd (omega arith) }
-plain-within Place.Check y a l c = record { bounded = omega arith; decided = λ e. absurd (omega arith) }
-plain-within Place.Critical y a l c = record { bounded = omega arith; decided = λ e. absurd (omega arith) }
-plain-within Place.Flag y a l c = record { bounded = omega arith; decided = λ e. absurd (omega arith) }
-plain-within Place.Scan y a l c = record { bounded = omega arith; decided = λ e. absurd (omega arith) }
-plain-within Place.Decided y a l c = record { bounded = omega arith; decided = λ e. refl }
+-- a table of most moves that has 5 where a process has decided and less elsewhere
+abbrev Ends : (Place → ℕ) → Place → Bool
+Ends f p = leb (f p) 5 && (not (leb 5 (f p)) || settled p)
 
-pub fast-within : (size : ℕ) (p : Place) (y o s a l : ℕ) → o ≤ size → FastCap size p y o s a l → Within p (size + 5 + 2 * l) a
-fast-within size Place.Rest y o s a l h c = record { bounded = omega arith; decided = λ e. absurd (omega arith) }
-fast-within size Place.Look y o s a l h c = record { bounded = omega arith; decided = λ e. absurd (omega arith) }
-fast-within size Place.Put y o s a l h c = record { bounded = omega arith; decided = λ e. absurd (omega arith) }
-fast-within size Place.Wait y o s a l h c = record { bounded = omega arith; decided = λ e. absurd (omega arith) }
-fast-within size Place.Check y o s a l h c = record { bounded = omega arith; decided = λ e. absurd (omega arith) }
-fast-within size Place.Critical y o s a l h c = record { bounded = omega arith; decided = λ e. absurd (omega arith) }
-fast-within size Place.Flag y o s a l h c = record { bounded = omega arith; decided = λ e. absurd (omega arith) }
-fast-within size Place.Scan y o s a l h c =
-    let z = scan-total size o s a l h c in
-    record { bounded = omega arith; decided = λ e. absurd (omega arith) }
-fast-within size Place.Decided y o s a l h c = record { bounded = omega arith; decided = λ e. refl }
+ends-within : (f : Place → ℕ) → T (everywhere (Ends f)) → (p : Place) (x b a l : ℕ) → x ≤ b → a ≤ 2 * l + (x + f p) → Within p (b + 5 + 2 * l) a
+ends-within f test p x b a l h c =
+    record {
+      bounded = omega (arith, at-most (f p) (and-left (leb (f p) 5) _ here));
+      decided = λ e. decided-place p (ends (f p) (and-right (leb (f p) 5) _ here) (omega (arith, at-most (f p) (and-left (leb (f p) 5) _ here))));
+    }
+  where
+    here : T (Ends f p)
+    here = every-place (Ends f) test p
 
--- before the first move
-plain-zero : (p : Place) (y : ℕ) → PlainCap p y 0 0
-plain-zero Place.Rest y = omega arith
-plain-zero Place.Look y = (omega arith, λ e. omega arith)
-plain-zero Place.Put y = omega arith
-plain-zero Place.Wait y = omega arith
-plain-zero Place.Check y = omega arith
-plain-zero Place.Critical y = omega arith
-plain-zero Place.Flag y = omega arith
-plain-zero Place.Scan y = omega arith
-plain-zero Place.Decided y = omega arith
+    at-most : (n : ℕ) → T (leb n 5) → n ≤ 5
+    at-most n q = by (leb n 5) refl q
+      where
+        by : (y : Bool) → leb n 5 ≡ y → T y → n ≤ 5
+        by true e z = leb-true n 5 e
+        by false e z = absurd z
 
-fast-zero : (size : ℕ) (p : Place) (y o s : ℕ) → T (begins Routine.Fast p) → FastCap size p y o s 0 0
-fast-zero size Place.Rest y o s h = omega arith
-fast-zero size Place.Look y o s h = (omega arith, λ e. omega arith)
-fast-zero size Place.Put y o s h = omega arith
-fast-zero size Place.Wait y o s h = omega arith
-fast-zero size Place.Check y o s h = omega arith
-fast-zero size Place.Critical y o s h = omega arith
-fast-zero size Place.Flag y o s h = omega arith
-fast-zero size Place.Scan y o s h = absurd h
-fast-zero size Place.Decided y o s h = omega arith
+    ends : (n : ℕ) → T (not (leb 5 n) || settled p) → 5 ≤ n → T (settled p)
+    ends n q g = rw (le-leb 5 n g) at q
 
-cap-zero : (κ : Routine) (u : Shape) (y : ℕ) (r : Row) → Unmoved κ r → Cap κ u y r
-cap-zero Routine.Lock u y r z = tt
-cap-zero Routine.Plain u y r z = rw (z .moves, z .lates) (plain-zero (r .local .place) y)
-cap-zero Routine.Fast u y r z = rw (z .moves, z .lates) (fast-zero (u .size) (r .local .place) y (r .own) (r .local .scan) (z .place))
+pub plain-within : (u : Shape) (y : ℕ) (r : Row) → Cap Routine.Plain u y r → Within (r .local .place) (5 + 2 * r .lates) (r .moves)
+plain-within u y r c = ends-within plainMost tt (r .local .place) 0 0 (r .moves) (r .lates) (omega arith) (c .all)
 
-pub capped-start : (u : Shape) (w : World) → Bare (routine u) w → Capped u w
-capped-start u w bare i = cap-zero (routine u) u (w .value 0) (w .seat i .row) (bare .rows i)
-
-pub proposed-start : (u : Shape) (w : World) → Bare (routine u) w → Proposed (u .count) w
-proposed-start u w bare z = absurd (z (bare .value 0))
+pub fast-within : (u : Shape) (y : ℕ) (r : Row) → Cap Routine.Fast u y r → Within (r .local .place) (u .size + 5 + 2 * r .lates) (r .moves)
+fast-within u y r c = ends-within fastMost tt (r .local .place) (cond (past (r .local .place)) (u .size) 0) (u .size) (r .moves) (r .lates) (at-most (past (r .local .place))) (c .most .all)
+  where
+    at-most : (b : Bool) → cond b (u .size) 0 ≤ u .size
+    at-most true = omega arith
+    at-most false = omega arith
