@@ -1,12 +1,11 @@
 -- The moves and late writes of a row are counts over the records of its trace; and so is any further column.
 -- Assumes nothing.
-use Prim.Native.Nat.{ℕ, suc, _+_, _≤_}
-use mathlib.Core.Path.{_≡_, refl, sym, ap, _∙_}
+use Prim.Native.Nat.{ℕ, zero, suc, _+_, _≤_}
+use mathlib.Core.Path.{_≡_, refl, ap, _∙_}
 use mathlib.Core.Logic.{_≢_}
 use mathlib.Core.Bool.{Bool, true, false, cond, _&&_}
 use mathlib.Core.List.{List}
 use native.Mathlib.Omega.{arith}
-use lib.Dec.{eqb}
 use borrow.Author.Tests.{eq-eqb, ne-eqb}
 use Rattle.terms.specs.Numbers.{processOf, indexOf}
 use Rattle.trace.specs.declared.Step.{Step}
@@ -22,7 +21,6 @@ use Rattle.model.specs.Counts.{howMany, stepAt, moveOf, lateIn, movesOf,
 use Rattle.model.proofs.RunLaws.{run-going}
 use Rattle.model.proofs.Turns.{rowGone, turn}
 use Rattle.model.proofs.Keeping.{Kept, Admitted, fresh-rows, each-kept}
-use Rattle.model.proofs.Rooms.{Few, reach-few}
 use Rattle.model.proofs.SetupSays.{run-said, setup-sound, setup-starts}
 
 -- A COLUMN of the rows that begins at 0, keeps through a crash, and grows by one at each move that passes the test
@@ -50,6 +48,14 @@ uncounted false b e = refl
 counted-once : (a b : Bool) → b ≡ true → one (a && b) ≡ one a
 counted-once true b e = rw e
 counted-once false b e = refl
+
+one-small : (b : Bool) → one b ≤ 1
+one-small true = omega arith
+one-small false = omega arith
+
+one-fewer : (a b : Bool) → one (a && b) ≤ one b
+one-fewer true b = omega arith
+one-fewer false b = omega arith
 
 module _ (u : Shape) (f : Row → ℕ) (test : Progress → Step → Bool) (c : Column u f test) where
   begins-at : (κ : Routine) (j x : ℕ) → f (begin κ j x) ≡ 0
@@ -86,6 +92,17 @@ module _ (u : Shape) (f : Row → ℕ) (test : Progress → Step → Bool) (c : 
         each-kept u so xs st rest (λ k s. (j : ℕ) → f (rowAt s j) ≡ tallyOf j k)
         (fresh-rows u so xs st (λ j r. f r ≡ 0) (λ j h. c .begins _ _ _) (λ j h ok. begins-at (routine u) j _)) one-more k e .1
 
+-- no more than there are records, and fewer by a further test
+how-many-within : (test : ℕ → Bool) (k : ℕ) → howMany test k ≤ k
+unfolding howMany
+how-many-within test zero = omega arith
+how-many-within test (suc k) = omega (arith, how-many-within test k, one-small (test k))
+
+how-many-fewer : (further test : ℕ → Bool) (k : ℕ) → howMany (λ i. further i && test i) k ≤ howMany test k
+unfolding howMany
+how-many-fewer further test zero = omega arith
+how-many-fewer further test (suc k) = omega (arith, how-many-fewer further test k, one-fewer (further k) (test k))
+
 -- THE TWO COLUMNS
 moves-column : (u : Shape) → Column u (λ r. r .moves) (λ p k. true)
 moves-column u = record { begins = λ p c v. refl; stops = λ r. refl; goes = λ s k. refl }
@@ -104,12 +121,14 @@ pub record Counted (u : Shape) (x : State) (rest : List ℕ) (k j : ℕ) (r : Ro
 pub reach-counts : (u : Shape) → Sound u → (xs : List ℕ) → Starts u xs → (rest : List ℕ) (k : ℕ) {s : State} → reach u (fresh u xs) rest k ≡ going s
     → (j : ℕ) → Counted u (fresh u xs) rest k j (rowAt s j)
 reach-counts u so xs st rest k e j =
-    let few = reach-few u so xs st rest k e j in
+    let moves = tally u (λ r. r .moves) (λ p k. true) (moves-column u) so xs st rest k e j in
+    let lates = tally u (λ r. r .lates) (lateIn u) (lates-column u) so xs st rest k e j in
+    let mine : ℕ → Bool = λ i. moveOf (processOf (j + 1)) (stepAt rest i) in
     record {
-      moves = tally u (λ r. r .moves) (λ p k. true) (moves-column u) so xs st rest k e j;
-      lates = tally u (λ r. r .lates) (lateIn u) (lates-column u) so xs st rest k e j;
-      fewer = few .lates;
-      within = few .moves;
+      moves = moves;
+      lates = lates;
+      fewer = omega (arith, moves, lates, how-many-fewer (λ i. lateIn u (reach u (fresh u xs) rest i) (stepAt rest i)) mine k);
+      within = omega (arith, moves, how-many-within mine k);
     }
 
 -- after an accepted run

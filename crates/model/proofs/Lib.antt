@@ -4,12 +4,14 @@ pub mod Pattern
 pub mod LockSafe
 pub mod DecideSafe
 pub mod FastSafe
+pub mod View
 pub mod RunLaws
 pub mod Turns
+pub mod Rows
+pub mod Admits
 pub mod Keeping
-pub mod Rooms
 pub mod SetupSays
-pub mod View
+pub mod Rooms
 pub mod Invariants
 pub mod Tally
 pub mod Shown
@@ -17,5 +19,7 @@ pub mod Consequences
 pub mod Later
 pub mod Counts
 pub mod Theorems
+pub mod Cuts
+pub mod Points
 pub mod Witnesses
 pub mod Examples

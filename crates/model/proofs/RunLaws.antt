@@ -1,13 +1,13 @@
 -- Laws of a run, a fold over the bytes: what one record does to it, and what holds after each of them.
 -- Assumes nothing.
-use Prim.Native.Nat.{ℕ, zero, suc, _+_, _*_, _-_, _/_, _≤_, _<_}
+use Prim.Native.Nat.{ℕ, zero, suc, _+_, _*_, _-_, _≤_, _<_}
 use mathlib.Core.Path.{_≡_, refl, sym, ap, subst, _∙_}
 use mathlib.Core.List.{List}
 use native.Mathlib.Numerals.{add-one}
 use native.Mathlib.Nat.{add-zero, add-suc}
 use native.Mathlib.Omega.{arith}
 use lib.ListN.{length, drop, length-drop}
-use Rattle.terms.specs.Refusal.{_then_, ifAccepted}
+use Rattle.terms.specs.Refusal.{ifAccepted}
 use Rattle.terms.proofs.RefusalLaws.{then-on, then-stop, then-both, if-accepted, if-refused}
 use Rattle.trace.specs.Step.{stepRefusal, stepFields}
 use Rattle.trace.proofs.StepLaws.{step-said}
@@ -22,7 +22,7 @@ going-same e = cc
 pub going-stopped : {s : State} {x j : ℕ} → going s ≡ stopped x j → ⊥
 going-stopped e = let z : _≡_ {A = ℕ} 0 1 = cc in omega arith
 
--- the bytes of the record after the first k, and those behind it; and what the state says to it
+-- the bytes from the record after the first k on; what the state says to the record at the front of bytes
 abbrev pub recordAt : List ℕ → ℕ → List ℕ
 recordAt rest k = drop (k * 8) rest
 
@@ -91,7 +91,7 @@ module _ (u : Shape) (x : State) (rest : List ℕ) where
       let sum : k + (m - k) ≡ m = omega arith in
       rw (← sum) (stays k (m - k) e)
 
-  -- EACH RECORD: the states before a state that was reached; the record that led there was accepted
+  -- EACH RECORD: before a state that was reached there was one, and the record that led on was accepted
   before : (k : ℕ) {s : State} → reach u x rest (suc k) ≡ going s
       → (t : State) × (reach u x rest k ≡ going t) × (recordRefusal u t (recordAt rest k) ≡ 0) × (after u t (stepFields (recordAt rest k)) ≡ s)
   unfolding reach advance
@@ -102,6 +102,14 @@ module _ (u : Shape) (x : State) (rest : List ℕ) where
       by (going t) f g = let a = if-going _ _ g in (t, f, a .0, a .1)
       by (stopped y j) f g = absurd (going-stopped (sym g))
 
+  -- from point to point: the record was accepted, and led there
+  pub reach-next : (k : ℕ) {s t : State} → reach u x rest k ≡ going s → reach u x rest (suc k) ≡ going t
+      → (recordRefusal u s (recordAt rest k) ≡ 0) × (after u s (stepFields (recordAt rest k)) ≡ t)
+  reach-next k {s} {t} e f =
+      let b = before k f in
+      let same = going-same (sym (b .1) ∙ e) in
+      subst (λ (y : State). (recordRefusal u y (recordAt rest k) ≡ 0) × (after u y (stepFields (recordAt rest k)) ≡ t)) same (b .2, b .3)
+
   -- what holds at the start and is kept by each accepted record holds after each of them
   pub each-record : (P : ℕ → State → Type 0) → P 0 x → Keeps u rest P → (k : ℕ) {s : State} → reach u x rest k ≡ going s → P k s
   unfolding reach
@@ -109,6 +117,14 @@ module _ (u : Shape) (x : State) (rest : List ℕ) where
   each-record P start keep (suc k) e =
       let b = before k e in
       subst (P (suc k)) (b .3) (keep k (b .0) (b .2) (each-record P start keep k (b .1)))
+
+  -- accepted is: every record was accepted where those before it led
+  pub reach-all : (k : ℕ) → ((j : ℕ) (s : State) → j < k → reach u x rest j ≡ going s → recordRefusal u s (recordAt rest j) ≡ 0)
+      → (s : State) × (reach u x rest k ≡ going s)
+  reach-all zero h = (x, reach-start)
+  reach-all (suc k) h =
+      let there = reach-all k (λ j s l. h j s (omega arith)) in
+      (after u (there .0) (stepFields (recordAt rest k)), reach-accepts k (there .1) (h k (there .0) (omega arith) (there .1)))
 
   -- a prefix of an accepted trace is accepted
   pub reach-going-before : (j k : ℕ) {s : State} → reach u x rest k ≡ going s → j ≤ k → (t : State) × (reach u x rest j ≡ going t)

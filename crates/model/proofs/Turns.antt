@@ -56,6 +56,19 @@ module _ (u : Shape) (s : State) (k : Step) where
   turn h P stays stops goes =
       move-or-stop (λ x. (j : ℕ) → P j (rowAt x j)) (λ e. each-row P (s .rows) _ _ h stays (goes e)) (λ e. each-row P (s .rows) _ _ h stays (stops e))
 
+  -- row by row
+  pub stays : (j : ℕ) → j ≢ indexOf (k .process) → rowAt (after u s k) j ≡ rowAt s j
+  unfolding moveAt stop
+  stays j n = move-or-stop (λ x. rowAt x j ≡ rowAt s j) (λ e. getD-set-other (s .rows) _ j _ blank n) (λ e. getD-set-other (s .rows) _ j _ blank n)
+
+  pub stops : indexOf (k .process) < length (s .rows) → isMove k ≡ false → rowOf (after u s k) (k .process) ≡ crash (rowOf s (k .process))
+  unfolding after stop
+  stops h e = rw e (getD-set-same (s .rows) _ _ blank h)
+
+  pub goes : indexOf (k .process) < length (s .rows) → isMove k ≡ true → rowOf (after u s k) (k .process) ≡ rowGone u s k
+  unfolding after moveAt
+  goes h e = rw e (getD-set-same (s .rows) _ _ blank h)
+
   pub stop-keeps-memory : isMove k ≡ false → (after u s k .bank ≡ s .bank) × (after u s k .shared ≡ s .shared)
   unfolding after stop
   stop-keeps-memory e = rw e (refl, refl)
