@@ -25,11 +25,11 @@ use Rattle.model.specs.Run.{rowAt, rowOf, fresh, moveAt, reach, Progress
 use Rattle.model.specs.Counts.{stepAt}
 use Rattle.model.specs.Report.{shownPlace, figureOf}
 use Rattle.model.proofs.Places.{imply, differ, codeOf, inKind, timedDecision, settled, past, inside}
-use Rattle.model.proofs.World.{World, Clock, ordinary, clock}
+use Rattle.model.proofs.World.{World, ordinary, clock}
 use Rattle.model.proofs.LockSafe.{LockInv, exclusion, exit-in-time}
 use Rattle.model.proofs.DecideSafe.{DecideInv, agreement}
 use Rattle.model.proofs.Turns.{turn}
-use Rattle.model.proofs.Keeping.{slot-small, Kept, fresh-rows, each-kept}
+use Rattle.model.proofs.Keeping.{slot-small, fresh-rows, each-kept}
 use Rattle.model.proofs.View.{view}
 use Rattle.model.proofs.Invariants.{Inv, Along, nothing, Good, Bare, reach-good}
 use Rattle.model.proofs.Shown.{shows-inside, shows-decided, decided-shows}

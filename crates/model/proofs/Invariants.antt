@@ -1,14 +1,12 @@
 -- Over a whole trace: after any records that were accepted, the invariant of the routine holds.
 -- Assumes nothing.
-use Prim.Native.Nat.{ℕ, zero, suc, _+_, _-_, _≤_, _<_}
-use mathlib.Core.Path.{_≡_, refl, sym, subst, _∙_}
-use mathlib.Core.Logic.{_≢_}
-use mathlib.Core.Bool.{Bool, true, false}
+use Prim.Native.Nat.{ℕ, zero, suc, _+_, _≤_, _<_}
+use mathlib.Core.Path.{_≡_, refl, sym, subst}
+use mathlib.Core.Bool.{Bool, false}
 use mathlib.Core.List.{List}
 use native.Mathlib.Omega.{arith}
-use lib.Dec.{T, eqb}
+use lib.Dec.{T}
 use lib.ListN.{getD, replicate}
-use borrow.Author.Tests.{eqb-true}
 use Rattle.terms.specs.declared.ProcessNumber.{ProcessNumber}
 use Rattle.terms.specs.Limits.{topTick}
 use Rattle.terms.specs.Numbers.{indexOf}
@@ -23,10 +21,10 @@ use Rattle.model.specs.declared.State.{State}
 use Rattle.model.specs.Time.{wakeAt}
 use Rattle.model.specs.Routine.{Routine, routine, askAt, told, counted, crash, slots, nextOf, unmoved, begin, isDecided}
 use Rattle.model.specs.Memory.{reply}
-use Rattle.model.specs.Bounds.{Sound, Starts, AskFits}
-use Rattle.model.specs.Run.{rowAt, rowOf, blank, fresh, move, moveAt, stop, after, isMove, recordRefusal, reach, Progress.going}
-use Rattle.model.proofs.Places.{imply, differ, codeOf, inKind, begins, putting, scanning, raised, settled, checking, past, inside}
-use Rattle.model.proofs.World.{Seat, Commons, World, Clock, Pace, ordinary, clock, Moves, moved, crashed, slotAt, ownOf}
+use Rattle.model.specs.Bounds.{Sound, Starts}
+use Rattle.model.specs.Run.{rowAt, rowOf, fresh, move, stop, after, reach, Progress.going}
+use Rattle.model.proofs.Places.{differ, inKind, begins, putting, scanning, raised, settled, checking, past, inside}
+use Rattle.model.proofs.World.{Commons, World, Pace, ordinary, clock, Moves, moved, crashed, slotAt, ownOf}
 use Rattle.model.proofs.LockSafe.{LockInv, lock-moves, lock-crashes}
 use Rattle.model.proofs.DecideSafe.{DecideInv, plain-moves, decide-crashes}
 use Rattle.model.proofs.FastSafe.{FastDecideInv, fast-moves, fast-crashes}
@@ -224,10 +222,6 @@ bare-fresh u so xs st f =
           fresh-rows u so xs st (λ j r. Unmoved (routine u) r) (λ j h. unmoved-as (routine u) Place.Rest 0 0 tt)
           (λ j h ok. unmoved-begin (routine u) j (getD xs j 0));
     }
-
-last-fresh : (u : Shape) (xs : List ℕ) → fresh u xs .last ≡ 0
-unfolding fresh
-last-fresh u xs = refl
 
 -- A TRACE
 

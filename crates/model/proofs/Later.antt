@@ -1,8 +1,8 @@
 -- From a point of a run on: what each accepted record keeps holds at every later point. A decided process stays so.
 -- Assumes nothing.
-use Prim.Native.Nat.{ℕ, zero, suc, _≤_, _<_}
-use mathlib.Core.Path.{_≡_, refl, sym, ap, subst, _∙_}
-use mathlib.Core.Bool.{Bool, true, false, false≢true}
+use Prim.Native.Nat.{ℕ, suc, _≤_, _<_}
+use mathlib.Core.Path.{_≡_, refl, sym, ap, _∙_}
+use mathlib.Core.Bool.{false, false≢true}
 use mathlib.Core.List.{List}
 use native.Mathlib.Omega.{arith}
 use native.Mathlib.Decide.{decLt}
@@ -14,7 +14,7 @@ use Rattle.model.specs.declared.Row.{Row}
 use Rattle.model.specs.declared.State.{State}
 use Rattle.model.specs.Routine.{isDecided}
 use Rattle.model.specs.Bounds.{Sound, Starts}
-use Rattle.model.specs.Run.{rowAt, fresh, after, recordRefusal, reach, Progress.going}
+use Rattle.model.specs.Run.{rowAt, fresh, after, reach, Progress.going}
 use Rattle.model.specs.Counts.{stepAt}
 use Rattle.model.proofs.RunLaws.{recordAt, Keeps, reach-start, reach-accepts, each-record}
 use Rattle.model.proofs.Turns.{turn}

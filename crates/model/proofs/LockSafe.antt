@@ -1,16 +1,16 @@
 -- The lock: no two processes are inside on one slot. The invariant, and that each move keeps it, whichever slots a process takes.
 -- Assumes nothing.
-use Prim.Native.Nat.{ℕ, suc, _+_, _≤_, _<_}
+use Prim.Native.Nat.{ℕ, suc, _≤_, _<_}
 use mathlib.Core.Path.{_≡_, refl, sym, _∙_}
 use mathlib.Core.Logic.{_≢_}
-use mathlib.Core.Bool.{Bool, true, false}
+use mathlib.Core.Bool.{Bool}
 use native.Mathlib.Omega.{arith}
 use lib.Dec.{T}
 use Rattle.bank.specs.Registers.{unlimited}
 use Rattle.model.specs.declared.Place.{Place}
 use Rattle.model.specs.Routine.{Routine, Slots, counted, crash, lockNext}
 use Rattle.model.proofs.Places.{imply, differ, inKind, putting, inside, claiming, holding}
-use Rattle.model.proofs.World.{Seat, Commons, World, At, Putting, Clock, wakeOf, Moves, put, put-all, moved, crashed, slotAt, wakeOn, ownOf}
+use Rattle.model.proofs.World.{Seat, Commons, World, At, Putting, Clock, wakeOf, Moves, put-all, moved, crashed, slotAt, wakeOn, ownOf}
 use Rattle.model.proofs.Pattern.{LateFrom, Bound, read-binds, stays-bound, wait-outlasts, Definitive, Touches, definitive-stands}
 
 abbrev pub Inside : Seat → Type 0

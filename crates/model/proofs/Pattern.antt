@@ -65,3 +65,15 @@ definitive-stays w c m t f s v g def h l move reads =
           put-all {A = Seat} (λ j y. Putting y → slotAt y ≡ c → y .deadline < def .wake) {f = w .seat} {i = m} {a = s}
           (λ p e. absurd (def .filled (rw e at (reads p)))) (λ j n. def .late j);
     }
+
+-- further steps of the pattern, by any processes
+pub data Onward : World → World → Type 0 where
+  now : {w : World} → Onward w w
+  further : {w w′ : World} (m t f : ℕ) (s : Seat) (v : ℕ → ℕ) (g : Commons) → w .floor ≤ t → w .floor ≤ f → Touches w m t v
+      → (Putting s → w .value (slotAt s) ≡ 0) → Onward (moved w m s v g f) w′ → Onward w w′
+
+-- whoever reads the register from then on reads the same
+pub theorem-1 : {w w′ : World} (c : ℕ) → Onward w w′ → Definitive w c → w′ .value c ≡ w .value c
+theorem-1 c now def = refl
+theorem-1 {w} c (further m t f s v g h l move reads rest) def =
+    theorem-1 c rest (definitive-stays w c m t f s v g def h l move reads) ∙ definitive-stands w c m t def h move

@@ -18,7 +18,7 @@ use Rattle.model.proofs.Places.{and-left, and-right, everywhere, every-
 use Rattle.model.proofs.World.{Seat, Commons, World, Clock, Pace, clock, Moves, put, put-all, put-same, slotAt, ownOf}
 use Rattle.model.proofs.DecideSafe.{put-at}
 use Rattle.model.proofs.Keeping.{RowOk}
-use Rattle.model.proofs.Invariants.{afterMove, Along, Unmoved, Bare}
+use Rattle.model.proofs.Invariants.{Along, Unmoved, Bare}
 
 -- WHERE THE VALUE CAME FROM
 

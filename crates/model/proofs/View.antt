@@ -1,7 +1,7 @@
 -- What the bench (32 rows, 8 registers, a deadline for each pair) does at a move and at a crash, as the theorems see it.
 -- Assumes nothing.
 use Prim.Native.Nat.{ℕ, _+_, _*_, _≤_, _<_}
-use mathlib.Core.Path.{_≡_, refl, sym, ap, subst, _∙_, fun-ext}
+use mathlib.Core.Path.{_≡_, refl, ap, subst, _∙_, fun-ext}
 use mathlib.Core.Logic.{_≢_}
 use mathlib.Core.Bool.{Bool, true, false, not, cond}
 use mathlib.Core.List.{List}
@@ -16,7 +16,6 @@ use Rattle.terms.specs.Numbers.{indexOf}
 use Rattle.bank.specs.declared.Bank.{Bank}
 use Rattle.bank.specs.Registers.{unlimited, pairOf, due, lateAt, deadlineAt, afterRead, afterWrite}
 use Rattle.model.specs.declared.Place.{Place}
-use Rattle.model.specs.declared.Ask.{Ask}
 use Rattle.model.specs.declared.Shared.{Shared}
 use Rattle.model.specs.declared.Shape.{Shape}
 use Rattle.model.specs.declared.Local.{Local}

@@ -1,6 +1,6 @@
 -- No theorem speaks of nothing: for each, a trace of specs/Traces.antt that meets its hypotheses, computed.
 -- Assumes nothing.
-use Prim.Native.Nat.{ℕ, zero, suc, _+_, _*_, _<_}
+use Prim.Native.Nat.{ℕ, zero, suc}
 use mathlib.Core.Path.{_≡_, refl}
 use mathlib.Core.Bool.{Bool, true, false, _&&_}
 use mathlib.Core.List.{List, [], _∷_}
@@ -9,18 +9,17 @@ use lib.Dec.{T, ltb}
 use lib.ListN.{getD, replicate}
 use borrow.Author.Tests.{ltb-true}
 use Rattle.terms.specs.Limits.{mostProcesses}
-use Rattle.terms.specs.Numbers.{processOf, slotOf}
+use Rattle.terms.specs.Numbers.{slotOf}
 use Rattle.bank.specs.Registers.{freshBank, afterRead, afterWrite, valueAt}
 use Rattle.trace.specs.Record.{byte}
 use Rattle.trace.specs.Setup.{badKind, badSize, badStart, setupRefusal}
 use Rattle.trace.specs.Step.{stepRefusal}
-use Rattle.model.specs.declared.Place.{Place}
 use Rattle.model.specs.declared.State.{State}
 use Rattle.model.specs.Bounds.{Bytes}
-use Rattle.model.specs.Run.{rowAt, rowOf, startRows, fresh, moveAt, stop, after, judge, recordRefusal, advance, reach, records, restOf, startOf, reached, runRefusal, runOf, Progress, Progress.going, Progress.stopped}
+use Rattle.model.specs.Run.{rowAt, startRows, fresh, moveAt, stop, after, judge, recordRefusal, advance, reach, records, startOf, reached, runRefusal, runOf, Progress, Progress.going, Progress.stopped}
 use Rattle.model.specs.Counts.{howMany}
 use Rattle.model.specs.Report.{line, lines, reportOf, outcomeOf, ranOf}
-use Rattle.model.specs.Traces.{Case, cases, refused}
+use Rattle.model.specs.Traces.{cases, refused}
 use Rattle.model.proofs.Shown.{shown}
 use Rattle.model.proofs.Theorems.{At, Inside, Occupies, Decides, Proposed, movesIn, latesIn}
 
