@@ -23,6 +23,7 @@ use Rattle.model.specs.Routine.{Routine, routine, begin}
 use Rattle.model.specs.Bounds.{Sound, Starts}
 use Rattle.model.specs.Run.{rowAt, rowOf, fresh, moveAt, reach, Progress.going}
 use Rattle.model.specs.Counts.{stepAt}
+use Rattle.model.specs.Claims.{Within}
 use Rattle.model.specs.Report.{shownPlace, figureOf}
 use Rattle.model.proofs.Places.{imply, differ, codeOf, inKind, timedDecision, settled, past, inside}
 use Rattle.model.proofs.World.{World, ordinary, clock}
@@ -33,7 +34,7 @@ use Rattle.model.proofs.Keeping.{slot-small, fresh-rows, each-kept}
 use Rattle.model.proofs.View.{view}
 use Rattle.model.proofs.Invariants.{Inv, Along, nothing, Good, Bare, reach-good}
 use Rattle.model.proofs.Shown.{shows-inside, shows-decided, decided-shows}
-use Rattle.model.proofs.Tally.{Proposer, Proposed, proposed-along, proposed-start, Cap, Capped, capped-along, capped-start, Within, plain-within, fast-within}
+use Rattle.model.proofs.Tally.{Proposer, Proposed, proposed-along, proposed-start, Cap, Capped, capped-along, capped-start, plain-within, fast-within}
 
 -- THE KIND, from a place
 
@@ -181,12 +182,12 @@ module _ {u : Shape} {s : State} (point : Point u s) where
   capped n = along (Capped u) (capped-along ordinary u n) (capped-start u)
 
   -- f late writes and at most 5 + 2 f moves; b more for the flags
-  pub plain-bound : routine u ≡ Routine.Plain → (j : ℕ) → Within (rowAt s j .local .place) (5 + 2 * rowAt s j .lates) (rowAt s j .moves)
+  pub plain-bound : routine u ≡ Routine.Plain → (j : ℕ) → Within (5 + 2 * rowAt s j .lates) (rowAt s j)
   plain-bound q j =
       let r : Row = rowAt s j in
       plain-within u (seen .value 0) r (subst (λ (κ : Routine). Cap κ u (seen .value 0) r) q (capped (rw q tt) j))
 
-  pub fast-bound : routine u ≡ Routine.Fast → (j : ℕ) → Within (rowAt s j .local .place) (u .size + 5 + 2 * rowAt s j .lates) (rowAt s j .moves)
+  pub fast-bound : routine u ≡ Routine.Fast → (j : ℕ) → Within (u .size + 5 + 2 * rowAt s j .lates) (rowAt s j)
   fast-bound q j =
       let r : Row = rowAt s j in
       fast-within u (seen .value 0) r (subst (λ (κ : Routine). Cap κ u (seen .value 0) r) q (capped (rw q tt) j))
@@ -212,6 +213,6 @@ module _ {u : Shape} {s : State} (point : Point u s) where
       rw (decision-figure (routine u) (rowAt s j .local .place) (reaches j) q (rowAt s j)) (decision-proposed j q)
 
   -- once it has made the most moves, a row that has not crashed shows 8
-  pub shown-done : (most j : ℕ) → Within (rowAt s j .local .place) most (rowAt s j .moves) → rowAt s j .moves ≡ most → shownPlace (rowAt s j) ≢ 9
+  pub shown-done : (most j : ℕ) → Within most (rowAt s j) → rowAt s j .moves ≡ most → shownPlace (rowAt s j) ≢ 9
       → shownPlace (rowAt s j) ≡ 8
   shown-done most j within e n = decided-shows (rowAt s j) (within .decided e) n

@@ -17,6 +17,7 @@ pub mod Tally
 pub mod Shown
 pub mod Consequences
 pub mod Later
+pub mod Reached
 pub mod Counts
 pub mod Theorems
 pub mod Cuts

@@ -20,6 +20,7 @@ use Rattle.model.specs.declared.Row.{Row}
 use Rattle.model.specs.declared.State.{State}
 use Rattle.model.specs.Routine.{Routine, routine}
 use Rattle.model.specs.Run.{blank, rowAt, after, recordRefusal, advance, reach, restOf, records, shapeOf, reached, runRefusal, runOf, lineWidth, Progress, Progress.going, Progress.stopped}
+use Rattle.model.specs.Claims.{shown}
 use Rattle.model.specs.Report.{shownOf, shownPlace, figureOf, line, lines, reportOf, outcomeOf, ranOf}
 use Rattle.model.proofs.Places.{imply, settled, inside}
 use Rattle.model.proofs.RunLaws.{recordAt, going-stopped}
@@ -80,10 +81,6 @@ lines-at κ rows (suc n) j m h l = by (decLt j n) (λ g. lines-at κ rows n j m 
     by (no g) before =
         let same : j ≡ n = omega arith in
         rw (same, ← lines-length κ rows n) (getD-append-add (lines κ rows n) (line κ (getD rows n blank)) m 0)
-
--- number m of row j in the report of a run
-abbrev pub shown : List ℕ → List ℕ → ℕ → ℕ → ℕ
-shown trace old j m = getD (ranOf trace old .report) (lineWidth * j + m) 0
 
 shown-at : (trace old : List ℕ) {s : State} → runOf trace (length old) ≡ going s → (j m : ℕ) → j < byte 3 trace → m < lineWidth
     → shown trace old j m ≡ getD (line (routine (shapeOf (setupFields trace))) (rowAt s j)) m 0

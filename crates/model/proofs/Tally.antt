@@ -14,6 +14,7 @@ use Rattle.model.specs.declared.Local.{Local}
 use Rattle.model.specs.declared.Row.{Row}
 use Rattle.model.specs.Time.{wakeAt}
 use Rattle.model.specs.Routine.{Routine, routine, to, scans, counted, crash, scanAt, plainNext, fastNext, nextOf}
+use Rattle.model.specs.Claims.{Within}
 use Rattle.model.proofs.Places.{and-left, and-right, everywhere, every-place, imply, differ, timedDecision, inKind, begins, putting, scanning, looking, past, settled, inside, decided-place}
 use Rattle.model.proofs.World.{Seat, Commons, World, Clock, Pace, clock, Moves, put, put-all, put-same, slotAt, ownOf}
 use Rattle.model.proofs.DecideSafe.{put-at}
@@ -315,23 +316,19 @@ capped-start u w bare i = cap-zero (routine u) u (w .value 0) (w .seat i .row) (
 
 -- WHAT FOLLOWS
 
-pub record Within (place : Place) (most moves : ℕ) : Type 0 where
-  pub bounded : moves ≤ most
-  pub decided : moves ≡ most → place ≡ Place.Decided
-
 -- a table of most moves that has 5 where a process has decided and less elsewhere
 abbrev Ends : (Place → ℕ) → Place → Bool
 Ends f p = leb (f p) 5 && (not (leb 5 (f p)) || settled p)
 
-ends-within : (f : Place → ℕ) → T (everywhere (Ends f)) → (p : Place) (x b a l : ℕ) → x ≤ b → a ≤ 2 * l + (x + f p) → Within p (b + 5 + 2 * l) a
-ends-within f test p x b a l h c =
-    record {
-      bounded = omega (arith, at-most (f p) (and-left (leb (f p) 5) _ here));
-      decided = λ e. decided-place p (ends (f p) (and-right (leb (f p) 5) _ here) (omega (arith, at-most (f p) (and-left (leb (f p) 5) _ here))));
-    }
+ends-within : (f : Place → ℕ) → T (everywhere (Ends f)) → (r : Row) (x b : ℕ) → x ≤ b → r .moves ≤ 2 * r .lates + (x + f (r .local .place))
+    → Within (b + 5 + 2 * r .lates) r
+ends-within f test r x b h c =
+    let n : ℕ = f (r .local .place) in
+    let five = at-most n (and-left (leb n 5) _ here) in
+    record { bounded = omega arith; decided = λ e. decided-place (r .local .place) (ends n (and-right (leb n 5) _ here) (omega arith)) }
   where
-    here : T (Ends f p)
-    here = every-place (Ends f) test p
+    here : T (Ends f (r .local .place))
+    here = every-place (Ends f) test (r .local .place)
 
     at-most : (n : ℕ) → T (leb n 5) → n ≤ 5
     at-most n q = by (leb n 5) refl q
@@ -340,14 +337,14 @@ ends-within f test p x b a l h c =
         by true e z = leb-true n 5 e
         by false e z = absurd z
 
-    ends : (n : ℕ) → T (not (leb 5 n) || settled p) → 5 ≤ n → T (settled p)
+    ends : (n : ℕ) → T (not (leb 5 n) || settled (r .local .place)) → 5 ≤ n → T (settled (r .local .place))
     ends n q g = rw (le-leb 5 n g) at q
 
-pub plain-within : (u : Shape) (y : ℕ) (r : Row) → Cap Routine.Plain u y r → Within (r .local .place) (5 + 2 * r .lates) (r .moves)
-plain-within u y r c = ends-within plainMost tt (r .local .place) 0 0 (r .moves) (r .lates) (omega arith) (c .all)
+pub plain-within : (u : Shape) (y : ℕ) (r : Row) → Cap Routine.Plain u y r → Within (5 + 2 * r .lates) r
+plain-within u y r c = ends-within plainMost tt r 0 0 (omega arith) (c .all)
 
-pub fast-within : (u : Shape) (y : ℕ) (r : Row) → Cap Routine.Fast u y r → Within (r .local .place) (u .size + 5 + 2 * r .lates) (r .moves)
-fast-within u y r c = ends-within fastMost tt (r .local .place) (cond (past (r .local .place)) (u .size) 0) (u .size) (r .moves) (r .lates) (at-most (past (r .local .place))) (c .most .all)
+pub fast-within : (u : Shape) (y : ℕ) (r : Row) → Cap Routine.Fast u y r → Within (u .size + 5 + 2 * r .lates) r
+fast-within u y r c = ends-within fastMost tt r (cond (past (r .local .place)) (u .size) 0) (u .size) (at-most (past (r .local .place))) (c .most .all)
   where
     at-most : (b : Bool) → cond b (u .size) 0 ≤ u .size
     at-most true = omega arith

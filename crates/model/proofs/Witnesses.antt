@@ -18,10 +18,9 @@ use Rattle.model.specs.declared.State.{State}
 use Rattle.model.specs.Bounds.{Bytes}
 use Rattle.model.specs.Run.{rowAt, startRows, fresh, moveAt, stop, after, judge, recordRefusal, advance, reach, records, startOf, reached, runRefusal, runOf, Progress, Progress.going, Progress.stopped}
 use Rattle.model.specs.Counts.{howMany}
+use Rattle.model.specs.Claims.{At, Inside, Occupies, Decides, Proposed, movesIn, latesIn, shown}
 use Rattle.model.specs.Report.{line, lines, reportOf, outcomeOf, ranOf}
 use Rattle.model.specs.Traces.{cases, refused}
-use Rattle.model.proofs.Shown.{shown}
-use Rattle.model.proofs.Theorems.{At, Inside, Occupies, Decides, Proposed, movesIn, latesIn}
 
 -- TRACES
 
