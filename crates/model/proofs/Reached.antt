@@ -1,17 +1,19 @@
 -- The states that the theorems speak of are points of a run: what the bytes of a trace say, handed to the invariants.
 -- Assumes nothing.
-use Prim.Native.Nat.{ℕ, _+_, _*_, _≤_, _<_}
-use mathlib.Core.Path.{_≡_, sym, subst, _∙_}
+use Prim.Native.Nat.{ℕ, zero, suc, _+_, _*_, _≤_, _<_}
+use mathlib.Core.Path.{_≡_, refl, sym, subst, _∙_}
 use mathlib.Core.List.{List}
+use native.Mathlib.Omega.{arith}
 use lib.Dec.{T}
 use lib.ListN.{length, getD}
 use Rattle.terms.specs.Limits.{mostProcesses}
+use Rattle.terms.specs.Refusal.{ifAccepted}
 use Rattle.trace.specs.Record.{byte}
 use Rattle.trace.specs.Setup.{setupFields}
 use Rattle.trace.proofs.SetupLaws.{setup-said, place-at}
 use Rattle.model.specs.declared.State.{State}
 use Rattle.model.specs.Bounds.{Bytes}
-use Rattle.model.specs.Run.{rowAt, restOf, records, runOf, Progress.going}
+use Rattle.model.specs.Run.{rowAt, restOf, records, reached, runRefusal, runOf, Progress.going, Progress.stopped}
 use Rattle.model.specs.Report.{ranOf}
 use Rattle.model.specs.Claims.{At, shape, Decides, Proposed, Within, shown, ShownProposed, ShownWithin}
 use Rattle.model.proofs.Places.{settled}
@@ -19,12 +21,24 @@ use Rattle.model.proofs.RunLaws.{reach-same, run-going}
 use Rattle.model.proofs.SetupSays.{setup-sound, setup-starts, run-said}
 use Rattle.model.proofs.Consequences.{Point, decision-proposed, plain-bound, fast-bound, shown-exclusion, shown-agreement, shown-proposed, shown-done}
 use Rattle.model.proofs.Later.{decided-stays}
-use Rattle.model.proofs.Shown.{accepted-goes, shows}
+use Rattle.model.proofs.Shown.{stopped-at, stopped-after, accepted-goes, shows}
 
 pub run-led : (trace : List ℕ) (room : ℕ) {s : State} → Bytes trace → runOf trace room ≡ going s → At trace (records (restOf trace)) s
 run-led trace room bytes e =
     let both = run-going trace room e in
     record { bytes = bytes; setup = run-said trace room (both .0) .setup; led = both .1 }
+
+-- a run that is refused at record k + 1 had reached such a state after k
+pub refused-led : (trace : List ℕ) (room : ℕ) {x k : ℕ} → Bytes trace → runOf trace room ≡ stopped x (suc k) → (s : State) × At trace k s
+unfolding runOf
+refused-led trace room {x} {k} bytes e = by (runRefusal trace room) refl e
+  where
+    by : (n : ℕ) → runRefusal trace room ≡ n → ifAccepted n (reached trace (records (restOf trace))) (stopped n 0) ≡ stopped x (suc k) → (s : State) × At trace k s
+    by zero z f =
+        let p = stopped-after _ _ (restOf trace) (records (restOf trace)) f in
+        let same : p .0 ≡ k = omega (arith, p .1) in
+        (p .2, record { bytes = bytes; setup = run-said trace room z .setup; led = subst (λ (n : ℕ). reached trace n ≡ going (p .2)) same (p .3) })
+    by (suc n) z f = absurd (omega (arith, stopped-at f))
 
 abbrev pub point : {trace : List ℕ} {k : ℕ} {s : State} → At trace k s → Point (shape trace) s
 point {trace} {k} at =

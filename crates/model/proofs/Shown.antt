@@ -30,6 +30,9 @@ use Rattle.model.proofs.RunLaws.{recordAt, going-stopped}
 stopped-number : {x y j i : ℕ} → stopped x j ≡ stopped y i → x ≡ y
 stopped-number e = cc
 
+pub stopped-at : {x y j i : ℕ} → stopped x j ≡ stopped y i → j ≡ i
+stopped-at e = cc
+
 if-stopped : (n k : ℕ) (s : State) {y j : ℕ} → ifAccepted n (going s) (stopped n k) ≡ stopped y j → y ≢ 0
 if-stopped zero k s e z = going-stopped e
 if-stopped (suc n) k s e z = let q = stopped-number e in omega arith
@@ -41,6 +44,24 @@ reach-number u x rest (suc k) {y} {j} e = by (reach u x rest k) refl e (λ f. re
   where
     by : (p : Progress) → reach u x rest k ≡ p → advance u (suc k) p (recordAt rest k) ≡ stopped y j → (reach u x rest k ≡ stopped y j → y ≢ 0) → y ≢ 0
     by (going s) f g before = if-stopped (recordRefusal u s (recordAt rest k)) (suc k) (after u s (stepFields (recordAt rest k))) g
+    by (stopped z i) f g before = before (f ∙ g)
+
+-- and stands at a record whose predecessors were accepted
+if-stopped-at : (n k : ℕ) (s : State) {y j : ℕ} → ifAccepted n (going s) (stopped n k) ≡ stopped y j → j ≡ k
+if-stopped-at zero k s e = absurd (going-stopped e)
+if-stopped-at (suc n) k s e = sym (stopped-at e)
+
+pub stopped-after : (u : Shape) (x : State) (rest : List ℕ) (n : ℕ) {y j : ℕ} → reach u x rest n ≡ stopped y j
+    → (k : ℕ) × (j ≡ suc k) × (s : State) × (reach u x rest k ≡ going s)
+unfolding reach advance
+stopped-after u x rest zero e = absurd (going-stopped e)
+stopped-after u x rest (suc n) {y} {j} e = by (reach u x rest n) refl e (λ f. stopped-after u x rest n f)
+  where
+    by : (p : Progress) → reach u x rest n ≡ p → advance u (suc n) p (recordAt rest n) ≡ stopped y j
+        → (reach u x rest n ≡ stopped y j → (k : ℕ) × (j ≡ suc k) × (s : State) × (reach u x rest k ≡ going s))
+        → (k : ℕ) × (j ≡ suc k) × (s : State) × (reach u x rest k ≡ going s)
+    by (going s) f g before =
+        (n, if-stopped-at (recordRefusal u s (recordAt rest n)) (suc n) (after u s (stepFields (recordAt rest n))) g, s, f)
     by (stopped z i) f g before = before (f ∙ g)
 
 pub run-number : (trace : List ℕ) (room : ℕ) {y j : ℕ} → runOf trace room ≡ stopped y j → y ≢ 0

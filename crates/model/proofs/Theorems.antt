@@ -16,12 +16,12 @@ use Rattle.trace.specs.Record.{byte}
 use Rattle.model.specs.declared.Place.{Place}
 use Rattle.model.specs.declared.State.{State}
 use Rattle.model.specs.Bounds.{Bytes}
-use Rattle.model.specs.Run.{rowAt, rowOf, move, restOf, records, startOf, runOf, Progress.going}
+use Rattle.model.specs.Run.{rowAt, rowOf, move, restOf, records, startOf, runOf, Progress.going, Progress.stopped}
 use Rattle.model.specs.Report.{ranOf}
 use Rattle.model.specs.Claims.{At, shape, Inside, Occupies, Decides, Proposed, Within, movesIn, latesIn, shown, ShownProposed, ShownWithin}
 use Rattle.model.proofs.Counts.{Counted, reach-counts}
 use Rattle.model.proofs.Consequences.{one-inside, number-stands, leaves-in-time, leaves-empty, one-decision, decision-stands, plain-bound, fast-bound}
-use Rattle.model.proofs.Reached.{run-led, point, proposed-there, stays-decided, rows-exclude, rows-agree, row-proposed, row-plain, row-fast}
+use Rattle.model.proofs.Reached.{run-led, refused-led, point, proposed-there, stays-decided, rows-exclude, rows-agree, row-proposed, row-plain, row-fast}
 
 -- AT EVERY POINT of a run: s is the state after the first k records, all of them accepted
 module _ {trace : List ℕ} {k : ℕ} {s : State} (at : At trace k s) where
@@ -84,9 +84,13 @@ agreement-ever {trace} {j} {k} {s} {t} at at′ i m v w a b = by (decLt j k)
     by (yes h) = agreement at′ i m v w (decided-for-good at at′ (omega arith) i v a) b
     by (no h) = agreement at i m v w a (decided-for-good at′ at (omega arith) m w b)
 
--- OF A WHOLE RUN: the state that an accepted run ends in is a point, after all its records; all of the above holds of it.
+-- OF A WHOLE RUN: an accepted run ends in such a state, after all its records; and one that is refused at record k + 1 had reached one after k. All
+-- of the above holds of them.
 pub run-at : (trace : List ℕ) (room : ℕ) {s : State} → Bytes trace → runOf trace room ≡ going s → At trace (records (restOf trace)) s
 run-at = run-led
+
+pub refused-at : (trace : List ℕ) (room : ℕ) {x k : ℕ} → Bytes trace → runOf trace room ≡ stopped x (suc k) → (s : State) × At trace k s
+refused-at = refused-led
 
 -- IN THE REPORT'S OWN NUMBERS, of an accepted run, for rows below n
 module _ (trace old : List ℕ) (bytes : Bytes trace) (accepted : ranOf trace old .outcome .number ≡ 0) where
