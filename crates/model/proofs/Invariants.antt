@@ -23,7 +23,7 @@ use Rattle.model.specs.Routine.{Routine, routine, askAt, told, counted, 
 use Rattle.model.specs.Memory.{reply}
 use Rattle.model.specs.Bounds.{Sound, Starts}
 use Rattle.model.specs.Run.{rowAt, rowOf, fresh, move, stop, after, reach, Progress.going}
-use Rattle.model.proofs.Places.{differ, inKind, begins, putting, scanning, raised, settled, checking, past, inside}
+use Rattle.model.proofs.Places.{differ, begins, putting, scanning, raised, settled, checking, past, inside}
 use Rattle.model.proofs.World.{Commons, World, Pace, ordinary, clock, Moves, moved, crashed, slotAt, ownOf}
 use Rattle.model.proofs.LockSafe.{LockInv, lock-moves, lock-crashes}
 use Rattle.model.proofs.DecideSafe.{DecideInv, plain-moves, decide-crashes}
@@ -31,7 +31,7 @@ use Rattle.model.proofs.FastSafe.{FastDecideInv, fast-moves, fast-crash
 use Rattle.model.proofs.RunLaws.{recordAt, each-record}
 use Rattle.model.proofs.Turns.{move-or-stop, last-after}
 use Rattle.model.proofs.Keeping.{RowOk, slot-small, Kept, kept-move, kept-stop, kept-fresh, fresh-rows, Admitted, admitted}
-use Rattle.model.proofs.Rooms.{own-small}
+use Rattle.model.proofs.Rooms.{ask-fits}
 use Rattle.model.proofs.View.{view, Shaped, Mobile, sees, sees-stop}
 
 -- the invariant of each routine
@@ -126,7 +126,7 @@ module _ (c : Pace) (u : Shape) (so : Sound u) (P : World → Type 0) (al : Alon
         let a : Reply = reply (s .bank) (s .shared) i t (askAt p (u .delta) r) in
         let ok = good .kept .each (indexOf i) in
         let seen = sees (clock c (u .delta)) u s i t (shaped u s so (good .kept)) few refl (omega (arith, so .bounded)) f (c .next t) p (told p r a) refl
-        (mobile p (free .undecided)) (λ e. own-small (routine u) u so ok (subst (λ (q : Place). T (inKind (routine u) q)) e (ok .place h))) in
+        (mobile p (free .undecided)) (ask-fits (routine u) u so (indexOf i) r ok p (ok .place h)) in
         record {
           kept = kept-move u so s (good .kept) i t h;
           inv =

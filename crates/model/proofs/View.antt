@@ -16,6 +16,7 @@ use Rattle.terms.specs.Numbers.{indexOf}
 use Rattle.bank.specs.declared.Bank.{Bank}
 use Rattle.bank.specs.Registers.{unlimited, pairOf, due, lateAt, deadlineAt, afterRead, afterWrite}
 use Rattle.model.specs.declared.Place.{Place}
+use Rattle.model.specs.declared.Ask.{Ask}
 use Rattle.model.specs.declared.Shared.{Shared}
 use Rattle.model.specs.declared.Shape.{Shape}
 use Rattle.model.specs.declared.Local.{Local}
@@ -25,6 +26,7 @@ use Rattle.model.specs.declared.State.{State}
 use Rattle.model.specs.Time.{wakeAt}
 use Rattle.model.specs.Routine.{Routine, routine, askAt, told, counted, crash, nextOf, isDecided}
 use Rattle.model.specs.Memory.{reply, bankAfter, sharedAfter}
+use Rattle.model.specs.Bounds.{AskFits}
 use Rattle.model.specs.Run.{blank, rowAt, rowOf, moveAt, stop}
 use Rattle.model.proofs.World.{Seat, Commons, World, Clock, Moves, raise, put, put-all, moved, crashed}
 
@@ -67,28 +69,19 @@ seats s m t r b f h others =
 apart : (i : ProcessNumber) (j : ℕ) (c d : SlotNumber) → j ≢ indexOf i → c .0 < 8 → d .0 < 8 → j * 8 + d .0 ≢ pairOf i c
 apart i j c d n h g e = n (omega arith)
 
-others : (u : Shape) (s : State) (i : ProcessNumber) (t : ℕ) → Shaped s → (p : Place) (j : ℕ) → j ≢ indexOf i
-    → deadlineOf (bankAfter (s .bank) i t (askAt p (u .delta) (rowOf s i))) j (rowAt s j .local .slot) ≡ deadlineOf (s .bank) j (rowAt s j .local .slot)
-unfolding afterRead afterWrite
-others u s i t sh p j n = go p
-  where
-    set-elsewhere : (x : ℕ) → getD (set (s .bank .deadlines) (pairOf i (rowOf s i .local .slot)) x) (j * 8 + rowAt s j .local .slot .0) 0
-        ≡ deadlineOf (s .bank) j (rowAt s j .local .slot)
-    set-elsewhere x =
-        getD-set-other (s .bank .deadlines) (pairOf i (rowOf s i .local .slot)) (j * 8 + rowAt s j .local .slot .0) x 0
-        (apart i j (rowOf s i .local .slot) (rowAt s j .local .slot) n (sh .slots (indexOf i)) (sh .slots j))
+elsewhere : (s : State) (i : ProcessNumber) → Shaped s → (c : SlotNumber) → c .0 < 8 → (x j : ℕ) → j ≢ indexOf i
+    → getD (set (s .bank .deadlines) (pairOf i c) x) (j * 8 + rowAt s j .local .slot .0) 0 ≡ deadlineOf (s .bank) j (rowAt s j .local .slot)
+elsewhere s i sh c h x j n =
+    getD-set-other (s .bank .deadlines) (pairOf i c) (j * 8 + rowAt s j .local .slot .0) x 0 (apart i j c (rowAt s j .local .slot) n h (sh .slots j))
 
-    go : (p : Place) → deadlineOf (bankAfter (s .bank) i t (askAt p (u .delta) (rowOf s i))) j (rowAt s j .local .slot)
-        ≡ deadlineOf (s .bank) j (rowAt s j .local .slot)
-    go Place.Rest = refl
-    go Place.Look = set-elsewhere (due t (u .delta))
-    go Place.Put = set-elsewhere unlimited
-    go Place.Wait = refl
-    go Place.Check = set-elsewhere unlimited
-    go Place.Critical = set-elsewhere unlimited
-    go Place.Flag = refl
-    go Place.Scan = refl
-    go Place.Decided = refl
+others : (s : State) (i : ProcessNumber) (t : ℕ) → Shaped s → (q : Ask) → AskFits q → (j : ℕ) → j ≢ indexOf i
+    → deadlineOf (bankAfter (s .bank) i t q) j (rowAt s j .local .slot) ≡ deadlineOf (s .bank) j (rowAt s j .local .slot)
+unfolding afterRead afterWrite
+others s i t sh Ask.Nothing o j n = refl
+others s i t sh (Ask.Read c d) o j n = elsewhere s i sh c (o .0) (due t d) j n
+others s i t sh (Ask.Write c v) o j n = elsewhere s i sh c o unlimited j n
+others s i t sh (Ask.Raise v) o j n = refl
+others s i t sh (Ask.Peek v) o j n = refl
 
 -- the process keeps its slot when it finds it empty and when it wins it
 keeps-slot : (κ : Routine) (u : Shape) (n v w : ℕ) (x : Local) → (nextOf κ u n Place.Look true v w x .slot ≡ x .slot) × (nextOf κ u n Place.Check true v w x .slot ≡ x .slot)
@@ -142,13 +135,13 @@ module _ (k : Clock) (u : Shape) (s : State) (i : ProcessNumber) (t : ℕ) (sh :
   due-is : due t (u .delta) ≡ t + k .delta
   due-is = rw (ne-eqb (u .delta) unlimited (λ q. omega arith), bound)
 
-  seat-path : (p : Place) (b : Bool) → told p (rowOf s i) (answer p) ≡ b
+  seat-path : (p : Place) (b : Bool) → told p (rowOf s i) (answer p) ≡ b → AskFits (askAt p (u .delta) (rowOf s i))
       → seatOf (moveAt u p s i t) ≡ put (seatOf s) (indexOf i) (record { row = row-after p b; deadline = deadline-after p b })
   unfolding moveAt
-  seat-path p b e =
+  seat-path p b e o =
       subst (λ (y : Bool). seatOf (moveAt u p s i t) ≡ put (seatOf s) (indexOf i) (record { row = row-after p y; deadline = deadline-after p y })) e
       (seats s (indexOf i) t (row-after p (told p (rowOf s i) (answer p))) (bank-after p) (sharedAfter (s .shared) (askAt p (u .delta) (rowOf s i))) in-rows
-      (others u s i t sh p))
+      (others s i t sh (askAt p (u .delta) (rowOf s i)) o))
 
   -- what the theorems see of a move at place p, having learnt b
   pub record Seen (f f′ : ℕ) (p : Place) (b : Bool) : Type 0 where
@@ -158,64 +151,64 @@ module _ (k : Clock) (u : Shape) (s : State) (i : ProcessNumber) (t : ℕ) (sh :
     pub looks : view f′ (moveAt u p s i t) ≡ moved (view f s) (indexOf i) (record { row = row-after p b; deadline = deadline-after p b }) v g f′
 
   -- where no register and no flag changes
-  plainly : (f f′ : ℕ) (p : Place) (b : Bool) → told p (rowOf s i) (answer p) ≡ b
+  plainly : (f f′ : ℕ) (p : Place) (b : Bool) → told p (rowOf s i) (answer p) ≡ b → AskFits (askAt p (u .delta) (rowOf s i))
       → bank-after p .values ≡ s .bank .values → sharedAfter (s .shared) (askAt p (u .delta) (rowOf s i)) ≡ s .shared
       → Moves k (view f s) (indexOf i) t p b (answer p .value) (view f s .value) (view f s .shared) (deadline-after p b) → Seen f f′ p b
   unfolding moveAt
-  plainly f f′ p b e q h m =
+  plainly f f′ p b e o q h m =
       record {
         v = view f s .value;
         g = view f s .shared;
         rule = m;
-        looks = world-is _ _ _ _ _ _ f′ (seat-path p b e) (ap (λ (l : List ℕ). λ (x : ℕ). getD l x 0) q) (ap commons h);
+        looks = world-is _ _ _ _ _ _ f′ (seat-path p b e o) (ap (λ (l : List ℕ). λ (x : ℕ). getD l x 0) q) (ap commons h);
       }
 
   -- where a flag is raised
-  raising : (f f′ : ℕ) (p : Place) (b : Bool) (n : ℕ) → told p (rowOf s i) (answer p) ≡ b → bank-after p .values ≡ s .bank .values
+  raising : (f f′ : ℕ) (p : Place) (b : Bool) (n : ℕ) → told p (rowOf s i) (answer p) ≡ b → AskFits (askAt p (u .delta) (rowOf s i)) → bank-after p .values ≡ s .bank .values
       → sharedAfter (s .shared) (askAt p (u .delta) (rowOf s i)) ≡ record { flags = set (s .shared .flags) n true } → n ≤ 8
       → Moves k (view f s) (indexOf i) t p b (answer p .value) (view f s .value) (raise (view f s .shared) n) (deadline-after p b) → Seen f f′ p b
   unfolding moveAt
-  raising f f′ p b n e q r h m =
+  raising f f′ p b n e o q r h m =
       record {
         v = view f s .value;
         g = raise (view f s .shared) n;
         rule = m;
         looks =
-            world-is _ _ _ _ _ _ f′ (seat-path p b e) (ap (λ (l : List ℕ). λ (x : ℕ). getD l x 0) q)
+            world-is _ _ _ _ _ _ f′ (seat-path p b e o) (ap (λ (l : List ℕ). λ (x : ℕ). getD l x 0) q)
             (ap commons r
             ∙ ap (λ (y : ℕ → Bool). record { flag = y }) (getD-put (s .shared .flags) n true false (omega (arith, sh .flags))));
       }
 
-  pub sees : (f f′ : ℕ) (p : Place) (b : Bool) → told p (rowOf s i) (answer p) ≡ b → Mobile p → (p ≡ Place.Flag → rowOf s i .own ≤ 8) → Seen f f′ p b
+  pub sees : (f f′ : ℕ) (p : Place) (b : Bool) → told p (rowOf s i) (answer p) ≡ b → Mobile p → AskFits (askAt p (u .delta) (rowOf s i)) → Seen f f′ p b
   unfolding moveAt afterRead afterWrite
-  sees f f′ Place.Rest b e h o = plainly f f′ Place.Rest b e refl refl Moves.leaves
-  sees f f′ Place.Look true e h o = plainly f f′ Place.Look true e refl refl (Moves.finds (eqb-true _ _ e) (set-here (due t (u .delta)) _ (keeps-slot (routine u) u _ _ _ _ .0) ∙ due-is))
-  sees f f′ Place.Look false e h o = plainly f f′ Place.Look false e refl refl (Moves.meets (eqb-false _ _ e))
-  sees f f′ Place.Put true e h o = plainly f f′ Place.Put true e (rw e) refl Moves.fails
+  sees f f′ Place.Rest b e h o = plainly f f′ Place.Rest b e o refl refl Moves.leaves
+  sees f f′ Place.Look true e h o = plainly f f′ Place.Look true e o refl refl (Moves.finds (eqb-true _ _ e) (set-here (due t (u .delta)) _ (keeps-slot (routine u) u _ _ _ _ .0) ∙ due-is))
+  sees f f′ Place.Look false e h o = plainly f f′ Place.Look false e o refl refl (Moves.meets (eqb-false _ _ e))
+  sees f f′ Place.Put true e h o = plainly f f′ Place.Put true e o (rw e) refl Moves.fails
   sees f f′ Place.Put false e h o =
       record {
         v = put (view f s .value) (rowOf s i .local .slot .0) (rowOf s i .own);
         g = view f s .shared;
         rule = Moves.stores (ltb-false (deadlineAt (s .bank) i (rowOf s i .local .slot)) t e);
-        looks = world-is _ _ _ _ _ _ f′ (seat-path Place.Put false e) (rw e (getD-put (s .bank .values) (rowOf s i .local .slot .0) (rowOf s i .own) 0 in-values)) refl;
+        looks = world-is _ _ _ _ _ _ f′ (seat-path Place.Put false e o) (rw e (getD-put (s .bank .values) (rowOf s i .local .slot .0) (rowOf s i .own) 0 in-values)) refl;
       }
-  sees f f′ Place.Wait b e h o = plainly f f′ Place.Wait b e refl refl Moves.pauses
-  sees f f′ Place.Check true e h o = plainly f f′ Place.Check true e refl refl (Moves.knows (eqb-true _ _ e) (set-here unlimited _ (keeps-slot (routine u) u _ _ _ _ .1)))
-  sees f f′ Place.Check false e h o = plainly f f′ Place.Check false e refl refl (Moves.learns (eqb-false _ _ e))
+  sees f f′ Place.Wait b e h o = plainly f f′ Place.Wait b e o refl refl Moves.pauses
+  sees f f′ Place.Check true e h o = plainly f f′ Place.Check true e o refl refl (Moves.knows (eqb-true _ _ e) (set-here unlimited _ (keeps-slot (routine u) u _ _ _ _ .1)))
+  sees f f′ Place.Check false e h o = plainly f f′ Place.Check false e o refl refl (Moves.learns (eqb-false _ _ e))
   sees f f′ Place.Critical b e h o = leave (lateAt (s .bank) i (rowOf s i .local .slot) t) refl
     where
       leave : (y : Bool) → lateAt (s .bank) i (rowOf s i .local .slot) t ≡ y → Seen f f′ Place.Critical b
-      leave true q = plainly f f′ Place.Critical b e (rw q) refl (Moves.sticks (ltb-true (deadlineAt (s .bank) i (rowOf s i .local .slot)) t q))
+      leave true q = plainly f f′ Place.Critical b e o (rw q) refl (Moves.sticks (ltb-true (deadlineAt (s .bank) i (rowOf s i .local .slot)) t q))
       leave false q =
           record {
             v = put (view f s .value) (rowOf s i .local .slot .0) 0;
             g = view f s .shared;
             rule = Moves.clears (ltb-false (deadlineAt (s .bank) i (rowOf s i .local .slot)) t q);
-            looks = world-is _ _ _ _ _ _ f′ (seat-path Place.Critical b e) (rw q (getD-put (s .bank .values) (rowOf s i .local .slot .0) 0 0 in-values)) refl;
+            looks = world-is _ _ _ _ _ _ f′ (seat-path Place.Critical b e o) (rw q (getD-put (s .bank .values) (rowOf s i .local .slot .0) 0 0 in-values)) refl;
           }
-  sees f f′ Place.Flag b e h o = raising f f′ Place.Flag b (rowOf s i .own) e refl refl (o refl) Moves.raises
-  sees f f′ Place.Scan true e h o = plainly f f′ Place.Scan true e refl refl (Moves.passes (bit-clear _ e))
-  sees f f′ Place.Scan false e h o = plainly f f′ Place.Scan false e refl refl (Moves.halts (bit-set _ e))
+  sees f f′ Place.Flag b e h o = raising f f′ Place.Flag b (rowOf s i .own) e o refl refl o Moves.raises
+  sees f f′ Place.Scan true e h o = plainly f f′ Place.Scan true e o refl refl (Moves.passes (bit-clear _ e))
+  sees f f′ Place.Scan false e h o = plainly f f′ Place.Scan false e o refl refl (Moves.halts (bit-set _ e))
   sees f f′ Place.Decided b e h o = absurd h
 
 -- of a crash they see the mark in the row alone
