@@ -8,7 +8,7 @@ use mathlib.Core.List.{List, _++_}
 use native.Mathlib.Omega.{arith}
 use native.Mathlib.Decide.{decLt}
 use lib.Dec.{T, eqb}
-use lib.ListN.{length, getD, drop, length-append, List·getD-append}
+use lib.ListN.{length, getD, drop, List·getD-append}
 use lib.Seq.{getD-append-add}
 use Rattle.terms.specs.Refusal.{ifAccepted}
 use Rattle.trace.specs.Record.{byte}
@@ -23,6 +23,7 @@ use Rattle.model.specs.Run.{blank, rowAt, after, recordRefusal, advance,
 use Rattle.model.specs.Claims.{shown}
 use Rattle.model.specs.Report.{shownOf, shownPlace, figureOf, line, lines, reportOf, outcomeOf, ranOf}
 use Rattle.model.proofs.Places.{imply, settled, inside}
+use Rattle.model.proofs.ReportLaws.{length-lines}
 use Rattle.model.proofs.RunLaws.{recordAt, going-stopped}
 
 -- A REFUSAL HAS A NUMBER
@@ -84,11 +85,6 @@ accepted-goes trace old e = by (runOf trace (length old)) refl e
 
 -- THE NUMBERS OF A ROW
 
-lines-length : (κ : Routine) (rows : List Row) (n : ℕ) → length (lines κ rows n) ≡ lineWidth * n
-unfolding line lines
-lines-length κ rows zero = refl
-lines-length κ rows (suc n) = omega (arith, length-append (lines κ rows n) (line κ (getD rows n blank)), lines-length κ rows n)
-
 lines-at : (κ : Routine) (rows : List Row) (n j m : ℕ) → j < n → m < lineWidth → getD (lines κ rows n) (lineWidth * j + m) 0 ≡ getD (line κ (getD rows j blank)) m 0
 unfolding lines
 lines-at κ rows zero j m h l = absurd (omega arith)
@@ -97,11 +93,12 @@ lines-at κ rows (suc n) j m h l = by (decLt j n) (λ g. lines-at κ rows n j m 
     by : Dec (j < n) → (j < n → getD (lines κ rows n) (lineWidth * j + m) 0 ≡ getD (line κ (getD rows j blank)) m 0)
         → getD (lines κ rows n ++ line κ (getD rows n blank)) (lineWidth * j + m) 0 ≡ getD (line κ (getD rows j blank)) m 0
     by (yes g) before =
-        List·getD-append (lines κ rows n) (line κ (getD rows n blank)) 0 (lineWidth * j + m) (omega (arith, lines-length κ rows n))
+        List·getD-append (lines κ rows n) (line κ (getD rows n blank)) 0 (lineWidth * j + m) (omega (arith, length-lines κ rows n))
         ∙ before g
     by (no g) before =
         let same : j ≡ n = omega arith in
-        rw (same, ← lines-length κ rows n) (getD-append-add (lines κ rows n) (line κ (getD rows n blank)) m 0)
+        let end : lineWidth * n ≡ length (lines κ rows n) = omega (arith, length-lines κ rows n) in
+        rw (same, end) (getD-append-add (lines κ rows n) (line κ (getD rows n blank)) m 0)
 
 shown-at : (trace old : List ℕ) {s : State} → runOf trace (length old) ≡ going s → (j m : ℕ) → j < byte 3 trace → m < lineWidth
     → shown trace old j m ≡ getD (line (routine (shapeOf (setupFields trace))) (rowAt s j)) m 0
@@ -110,7 +107,7 @@ shown-at trace old {s} e j m h l =
     let κ : Routine = routine (shapeOf (setupFields trace)) in
     rw e
     (List·getD-append (lines κ (s .rows) (byte 3 trace)) (drop (length (lines κ (s .rows) (byte 3 trace))) old) 0 (lineWidth * j + m)
-    (omega (arith, lines-length κ (s .rows) (byte 3 trace)))
+    (omega (arith, length-lines κ (s .rows) (byte 3 trace)))
     ∙ lines-at κ (s .rows) (byte 3 trace) j m h l)
 
 -- what the line of row j shows

@@ -1,0 +1,38 @@
+# make run      prove, build and run the program on a sample trace
+# make test     the gate: everything proved, every must-fail edit tried, everything compared (.ci/run)
+# make compare  the comparison with the independent program, at length
+# make bench    speed: the proved library and the plain Rust one, in one run
+
+SAMPLE = examples/sample.trace
+CARGO  = cargo --quiet --offline
+RUST   = --release --manifest-path rust/Cargo.toml
+
+.PHONY: run test compare compare-quick bench library program fmt clean
+
+run: program
+	@echo "target/bin/bench < $(SAMPLE)"
+	@target/bin/bench < $(SAMPLE)
+
+test:
+	@bash .ci/run
+
+program:
+	@rt check bench
+
+library:
+	@rt staticlib ghindulza
+
+compare-quick: library program
+	@.ci/compare 1
+
+compare: library program
+	@.ci/compare 20
+
+bench: library
+	@$(CARGO) run $(RUST) --example ratios
+
+fmt:
+	@rt fmt
+
+clean:
+	rm -rf target rust/target

@@ -1,0 +1,59 @@
+-- How the surface's numbers stand for what the layers below answer. Nothing new is decided here.
+use Prim.Native.Nat.{ℕ, _-_}
+use mathlib.Core.List.{List, [], _∷_}
+use lib.ListN.{length}
+use Rattle.bank.specs.declared.Bank.{Bank}
+use Rattle.bank.specs.declared.WriteAnswer.{WriteAnswer}
+use Rattle.bank.specs.declared.ReadResult.{ReadResult}
+use Rattle.bank.specs.declared.WriteResult.{WriteResult}
+use Rattle.bank.specs.Calls.{readNumber, readValue, writeNumber}
+use Rattle.trace.specs.declared.Setup.{Setup}
+use Rattle.trace.specs.declared.Step.{Step}
+use Rattle.trace.specs.Setup.{setupRead, setupRest, restStart}
+use Rattle.trace.specs.declared.SetupRead.{SetupRead}
+use Rattle.trace.specs.declared.StepRead.{StepRead}
+
+-- kind, n, ℓ or b, byte 5 (0 in every accepted setup), Δ
+abbrev pub setupNumbers : Setup → List ℕ
+setupNumbers f = f .kind ∷ f .processes ∷ f .size ∷ 0 ∷ f .delta ∷ []
+
+-- a setup that was read: the number of the refusal, its fields, its start bytes, and where the rest lies (offset and length)
+pub record SetupOut : Type 0 where
+  pub number : ℕ
+  pub fields : List ℕ
+  pub starts : List ℕ
+  pub rest : List ℕ
+
+abbrev pub setupOut : List ℕ → SetupOut
+setupOut s =
+    record {
+      number = setupRead s .refusal;
+      fields = setupNumbers (setupRead s .setup);
+      starts = setupRead s .setup .starts;
+      rest = restStart s ∷ length (setupRest s) ∷ [];
+    }
+
+-- a step that was read: the number of the refusal, and process, event, tick
+pub record StepOut : Type 0 where
+  pub number : ℕ
+  pub fields : List ℕ
+
+abbrev pub stepOut : StepRead → StepOut
+stepOut r = record { number = r .refusal; fields = r .step .process .0 ∷ r .step .event ∷ r .step .tick ∷ [] }
+
+-- a bank call: the number of the refusal, the bank, and the value read, or 1 for done, 2 for late, 0 for neither
+pub record BankOut : Type 0 where
+  pub number : ℕ
+  pub bank : Bank
+  pub answer : ℕ
+
+abbrev pub answerCode : WriteAnswer → ℕ
+answerCode WriteAnswer.Done = 1
+answerCode WriteAnswer.Late = 2
+answerCode (WriteAnswer.Refused k) = 0
+
+abbrev pub readOut : ReadResult → BankOut
+readOut r = record { number = readNumber (r .answer); bank = r .bank; answer = readValue (r .answer) }
+
+abbrev pub writeOut : WriteResult → BankOut
+writeOut r = record { number = writeNumber (r .answer); bank = r .bank; answer = answerCode (r .answer) }
