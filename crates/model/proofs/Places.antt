@@ -1,6 +1,7 @@
 -- Classes of places, as tests on a code, and statements on every place that one computed test proves.
 -- Assumes nothing.
 use mathlib.Core.Bool.{Bool, true, false, not, _&&_, _||_}
+use mathlib.Core.Path.{_≡_, refl}
 use Prim.Native.Nat.{ℕ}
 use lib.Dec.{T, eqb, leb}
 use Rattle.model.specs.declared.Place.{Place}
@@ -41,7 +42,10 @@ startPlace Routine.Fast = Place.Flag
 abbrev pub begins : Routine → Place → Bool
 begins κ p = eqb (codeOf p) 0 || eqb (codeOf p) (codeOf (startPlace κ))
 
--- at put; at scan; at look or put; decided
+-- at look; at put; at scan; at look or put; decided
+abbrev pub looking : Place → Bool
+looking p = eqb (codeOf p) 1
+
 abbrev pub putting : Place → Bool
 putting p = eqb (codeOf p) 2
 
@@ -73,11 +77,11 @@ holding p = leb 3 (codeOf p) && leb (codeOf p) 5
 
 -- ON EVERY PLACE
 
-and-left : (a b : Bool) → T (a && b) → T a
+pub and-left : (a b : Bool) → T (a && b) → T a
 and-left true b t = tt
 and-left false b t = t
 
-and-right : (a b : Bool) → T (a && b) → T b
+pub and-right : (a b : Bool) → T (a && b) → T b
 and-right true b t = t
 and-right false b t = absurd t
 
@@ -124,3 +128,15 @@ imply f g t p = apply (f p) (g p) (every-place (λ q. not (f q) || g q) t p)
 
 pub differ : (f g : Place → Bool) → T (everywhere (λ p. not (f p && g p))) → (p : Place) → T (f p) → T (g p) → ⊥
 differ f g t p = clash (f p) (g p) (every-place (λ q. not (f q && g q)) t p)
+
+-- the class of the decided is one place
+pub decided-place : (p : Place) → T (settled p) → p ≡ Place.Decided
+decided-place Place.Rest h = absurd h
+decided-place Place.Look h = absurd h
+decided-place Place.Put h = absurd h
+decided-place Place.Wait h = absurd h
+decided-place Place.Check h = absurd h
+decided-place Place.Critical h = absurd h
+decided-place Place.Flag h = absurd h
+decided-place Place.Scan h = absurd h
+decided-place Place.Decided h = refl

@@ -19,12 +19,12 @@ use Rattle.model.proofs.Counts.{reach-counts}
 
 -- THE OPERATION
 
-pub own-small : (κ : Routine) (u : Shape) → Sound u → {j : ℕ} {r : Row} → RowOk κ u j r → T (inKind κ Place.Flag) → r .own ≤ mostSlots
+own-small : (κ : Routine) (u : Shape) → Sound u → {j : ℕ} {r : Row} → RowOk κ u j r → T (inKind κ Place.Flag) → r .own ≤ mostSlots
 own-small Routine.Lock u so ok h = absurd h
 own-small Routine.Plain u so ok h = omega (arith, ok .small, so .slim)
 own-small Routine.Fast u so ok h = omega (arith, ok .small, so .slim)
 
-ask-fits : (κ : Routine) (u : Shape) → Sound u → (j : ℕ) (r : Row) → RowOk κ u j r → (p : Place) → T (inKind κ p) → AskFits (askAt p (u .delta) r)
+pub ask-fits : (κ : Routine) (u : Shape) → Sound u → (j : ℕ) (r : Row) → RowOk κ u j r → (p : Place) → T (inKind κ p) → AskFits (askAt p (u .delta) r)
 ask-fits κ u so j r ok = go
   where
     slot : r .local .slot .0 < mostSlots

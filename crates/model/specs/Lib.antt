@@ -5,4 +5,5 @@ pub mod Bounds
 pub mod Run
 pub mod Counts
 pub mod Report
+pub mod Claims
 pub mod Traces

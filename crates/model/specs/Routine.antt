@@ -90,15 +90,15 @@ slots u x = slotsOf (u .kind) u x
 
 -- the slot lock
 abbrev pub lockNext : Slots → Place → Bool → ℕ → Local → Local
-lockNext c Place.Rest b w x = on (c .leave) (to Place.Look x)
-lockNext c Place.Look true w x = to Place.Put x
-lockNext c Place.Look false w x = on (c .filled) (to Place.Look x)
-lockNext c Place.Put true w x = to Place.Check x
-lockNext c Place.Put false w x = to Place.Wait x
-lockNext c Place.Wait b w x = until w (to Place.Check x)
-lockNext c Place.Check true w x = to Place.Critical x
-lockNext c Place.Check false w x = on (c .lost) (to Place.Look x)
-lockNext c Place.Critical b w x = to Place.Rest x
+lockNext c Place.Rest b w x = on (c .leave) (to Place.Look x)  -- fig. 3, the call
+lockNext c Place.Look true w x = to Place.Put x  -- fig. 3, line 2
+lockNext c Place.Look false w x = on (c .filled) (to Place.Look x)  -- fig. 3, line 2
+lockNext c Place.Put true w x = to Place.Check x  -- fig. 3, line 3
+lockNext c Place.Put false w x = to Place.Wait x  -- fig. 3, line 3
+lockNext c Place.Wait b w x = until w (to Place.Check x)  -- fig. 3, line 3
+lockNext c Place.Check true w x = to Place.Critical x  -- fig. 3, line 4
+lockNext c Place.Check false w x = on (c .lost) (to Place.Look x)  -- fig. 3, line 4
+lockNext c Place.Critical b w x = to Place.Rest x  -- fig. 3, line 5
 lockNext c Place.Flag b w x = x
 lockNext c Place.Scan b w x = x
 lockNext c Place.Decided b w x = x
@@ -106,11 +106,11 @@ lockNext c Place.Decided b w x = x
 -- the plain decision
 abbrev pub plainNext : Place → Bool → ℕ → ℕ → Local → Local
 plainNext Place.Rest b v w x = x
-plainNext Place.Look true v w x = to Place.Put x
-plainNext Place.Look false v w x = to Place.Wait x
-plainNext Place.Put b v w x = to Place.Look x
-plainNext Place.Wait b v w x = until w (to Place.Check x)
-plainNext Place.Check b v w x = decides v (to Place.Decided x)
+plainNext Place.Look true v w x = to Place.Put x  -- fig. 7, line 1
+plainNext Place.Look false v w x = to Place.Wait x  -- fig. 7, line 1
+plainNext Place.Put b v w x = to Place.Look x  -- fig. 7, line 1
+plainNext Place.Wait b v w x = until w (to Place.Check x)  -- fig. 7, line 2
+plainNext Place.Check b v w x = decides v (to Place.Decided x)  -- fig. 7, line 3
 plainNext Place.Critical b v w x = x
 plainNext Place.Flag b v w x = x
 plainNext Place.Scan b v w x = x
@@ -126,15 +126,15 @@ scanFrom size own y x = scanAt size (cond (eqb y own) (y + 1) y) x
 -- the fast decision
 abbrev pub fastNext : ℕ → ℕ → Place → Bool → ℕ → ℕ → Local → Local
 fastNext size own Place.Rest b v w x = x
-fastNext size own Place.Look true v w x = to Place.Put x
-fastNext size own Place.Look false v w x = scanFrom size own 1 x
-fastNext size own Place.Put b v w x = to Place.Look x
-fastNext size own Place.Wait b v w x = until w (to Place.Check x)
-fastNext size own Place.Check b v w x = decides v (to Place.Decided x)
+fastNext size own Place.Look true v w x = to Place.Put x  -- fig. 8, line 2
+fastNext size own Place.Look false v w x = scanFrom size own 1 x  -- fig. 8, line 2
+fastNext size own Place.Put b v w x = to Place.Look x  -- fig. 8, line 2
+fastNext size own Place.Wait b v w x = until w (to Place.Check x)  -- fig. 8, line 3
+fastNext size own Place.Check b v w x = decides v (to Place.Decided x)  -- fig. 8, line 4
 fastNext size own Place.Critical b v w x = x
-fastNext size own Place.Flag b v w x = to Place.Look x
-fastNext size own Place.Scan true v w x = scanFrom size own (x .scan + 1) x
-fastNext size own Place.Scan false v w x = to Place.Wait x
+fastNext size own Place.Flag b v w x = to Place.Look x  -- fig. 8, line 1
+fastNext size own Place.Scan true v w x = scanFrom size own (x .scan + 1) x  -- fig. 8, line 3
+fastNext size own Place.Scan false v w x = to Place.Wait x  -- fig. 8, line 3
 fastNext size own Place.Decided b v w x = x
 
 abbrev pub nextOf : Routine → Shape → ℕ → Place → Bool → ℕ → ℕ → Local → Local
