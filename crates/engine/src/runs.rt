@@ -18,10 +18,10 @@ use model::Row;
 use model::Shape;
 use model::State;
 use terms::Trace;
-use trace::setups;
-use trace::steps;
 use trace::Setup;
 use trace::Step;
+use trace::setups;
+use trace::steps;
 
 // One accepted step of the process with row r: its row afterwards, and memory as the step leaves it.
 fn step_row(
@@ -84,7 +84,15 @@ fn run_steps(shape: Shape, starts: [u8; 32], rest: &[u8], report: &mut [u32]) ->
         if no != 0 {
             return Outcome { number: no, at: k };
         }
-        rows[j] = step_row(shape, r, step, &mut values, &mut deadlines, &mut touched, &mut flags);
+        rows[j] = step_row(
+            shape,
+            r,
+            step,
+            &mut values,
+            &mut deadlines,
+            &mut touched,
+            &mut flags,
+        );
         last = step.tick;
         at = at + 8;
     }

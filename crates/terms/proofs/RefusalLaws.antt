@@ -58,13 +58,10 @@ not-outside low high x e =
     let both = both-false (ltb x low) (ltb high x) e in
     (ltb-false x low (both .0), ltb-false high x (both .1))
 
--- of the list from index i on some x is bad at i, or later; none is past the end
+-- of the list from index i on some x is bad: the one at i, or a later one; none is past the end
 module _ (bad : ℕ → Bool) (s : List ℕ) (i : ℕ) where
-  pub any-here : i < length s → bad (getD s i 0) ≡ true → any bad (drop i s) ≡ true
-  any-here h t = rw (drop-cons s i 0, t)
-
-  pub any-later : i < length s → bad (getD s i 0) ≡ false → any bad (drop i s) ≡ any bad (drop (i + 1) s)
-  any-later h t = rw (add-one, drop-cons s i 0, t)
+  pub any-next : i < length s → any bad (drop i s) ≡ (bad (getD s i 0) || any bad (drop (i + 1) s))
+  any-next h = rw (add-one, drop-cons s i 0)
 
   pub any-none : length s ≤ i → any bad (drop i s) ≡ false
   any-none h = rw (drop-of-length-le s h)

@@ -1,5 +1,6 @@
 // The setup record: mark, kind, n, ℓ or b, a zero byte, Δ, and n start bytes. 8 + n bytes.
 ghost use mathlib.Core.Path.{_≡_};
+ghost use mathlib.Core.Bool.{_||_};
 ghost use Prim.Native.Nat.{_+_, _≤_};
 ghost use lib.ListN.{length};
 ghost use denote.Ref.{ptr};
@@ -36,21 +37,26 @@ fn is_bad_start(kind: u8, size: u8, x: u8) -> bool
     if kind == 1 {
         return size <= x;
     }
-    crate::is_outside(1, size as usize, x as usize)
+    x < 1 || size < x
 }
 
-// Whether some byte of s is no start byte.
+fn either(a: bool, b: bool) -> bool
+    ensures { λ r. ⌜ r ≡ (a || b) ⌝ }
+{
+    a | b
+}
+
+// Whether some byte of s is no start byte. It stops at none, so that many are looked at at once.
 fn any_bad_start(kind: u8, size: u8, s: &[u8]) -> bool
     ensures { λ r. ⌜ r ≡ any (badStart kind size) (now (s .entry)) ⌝ }
 {
+    let mut bad = false;
     let mut i = 0;
     while i < s.len() {
-        if is_bad_start(kind, size, s[i]) {
-            return true;
-        }
+        bad = either(bad, is_bad_start(kind, size, s[i]));
         i += 1;
     }
-    false
+    bad
 }
 
 // 3, 4 and 5: what the reader and the writer ask alike.

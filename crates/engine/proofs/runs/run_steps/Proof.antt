@@ -121,13 +121,13 @@ judge-requires c κs = search needs
 
 -- src/runs.rt:85:13
 returns-2 : tie.Need-returns-2 Inv-loop μ-loop Inv-loop2 μ-loop2
-returns-2 c = 
+returns-2 c =
     let m = c .before .before .before .before .before .before .before in
     unfit _ _ _ _ _ _ (here (m .before .before .before)) (m .before .before .loop-test .taken) (m .read-step-of .result) (found m) (c .before .before .before .before .before .if1 .left) _ (c .before .judge .ensures) (c .if2 .taken) (now (m .before .before .before .before .before .before .before .args .report))
 
 -- src/runs.rt:87:19
 step-row-requires : tie.Need-step-row-requires Inv-loop μ-loop Inv-loop2 μ-loop2
-step-row-requires c κs = 
+step-row-requires c κs =
     let m = c .before .before .before .before .before .before .before .before .before .before .before in
     let pre = m .before .before .before .before .before .before .before .pre in (
       pre .0,
@@ -155,7 +155,7 @@ loop-less c = search needs
 
 -- src/runs.rt:71:5
 loop-again : tie.Need-loop-again Inv-loop μ-loop Inv-loop2 μ-loop2
-loop-again c = 
+loop-again c =
     let m = c .before .before .before .before .before .before .before .before .before .before .before .before in
     let l = m .before .before .before in
     begun (sym (freshly (l .before)))
@@ -196,7 +196,7 @@ loop2-less c = search needs
 
 -- src/runs.rt:93:5
 loop2-again : tie.Need-loop2-again Inv-loop μ-loop Inv-loop2 μ-loop2
-loop2-again c = 
+loop2-again c =
     let l = c .before .before .before .before .before .before in (
       omega arith,
       search needs,
@@ -209,7 +209,7 @@ same-length c = search needs
 
 -- src/runs.rt:55:1
 returns-3 : tie.Need-returns-3 Inv-loop μ-loop Inv-loop2 μ-loop2
-returns-3 c = 
+returns-3 c =
     let l = c .before .before .before .before in
     let n : c .before .loop2 .j ≡ l .before .before .before .before .args .shape .count = omega arith in
     ends _ _ _ _ _ _ (here l) (c .before .before .before .loop-test .left) _ _ (rw (← n) (c .before .loop2 .inv .2))

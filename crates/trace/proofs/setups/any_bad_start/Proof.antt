@@ -1,39 +1,38 @@
--- `any_bad_start` meets its contract. The loop's invariant: whether some byte is bad is decided by those from i on. Assumes nothing.
-use mathlib.Core.Path.{_≡_, refl}
-use Prim.Native.Nat.{_≤_, _-_}
+-- `any_bad_start` meets its contract. The loop's invariant: some byte is bad if one was so far, or one from i on is. Assumes nothing.
+use mathlib.Core.Path.{_≡_, refl, _∙_}
+use mathlib.Core.Bool.{_||_, or-assoc, or-false}
+use Prim.Native.Nat.{_≤_, _+_, _-_}
 use native.Mathlib.Omega.{arith}
 use borrow.Author.Needs.{needs}
-use lib.ListN.{length, drop}
+use lib.ListN.{length, drop, getD}
 use denote.Ref.{now}
 use Rattle.terms.specs.Refusal.{any}
-use Rattle.terms.proofs.RefusalLaws.{any-here, any-later, any-none}
+use Rattle.terms.proofs.RefusalLaws.{any-next, any-none}
 use Rattle.trace.specs.Setup.{badStart}
 use Rattle.trace.proofs.setups.any_bad_start.Statement.{statement}
 use Rattle.trace.proofs.setups.any_bad_start.Tie as tie
 
 abbrev Inv-loop : tie.InvT-loop
-Inv-loop kind size s i₀ i = (i ≤ length s) × (any (badStart kind size) s ≡ any (badStart kind size) (drop i s))
+Inv-loop kind size s bad₀ i₀ bad i = (i ≤ length s) × (any (badStart kind size) s ≡ (bad || any (badStart kind size) (drop i s)))
 
 abbrev μ-loop : tie.MeasureT-loop
-μ-loop kind size s i₀ i = length s - i
+μ-loop kind size s bad₀ i₀ bad i = length s - i
 
 loop-holds : tie.Need-loop-holds Inv-loop μ-loop
 loop-holds c = (omega arith, refl)
 
-returns : tie.Need-returns Inv-loop μ-loop
-returns c =
-    let a = c .before .before .before .before .before .before .args in
-    cc (any-here (badStart (a .kind) (a .size)) (now (a .s)) (c .before .before .before .before .loop .i) (omega arith) (cc))
-
 loop-again : tie.Need-loop-again Inv-loop μ-loop
 loop-again c =
     let a = c .before .before .before .before .before .before .args in
-    (omega arith, cc (any-later (badStart (a .kind) (a .size)) (now (a .s)) (c .before .before .before .before .loop .i) (omega arith) (cc)))
+    let l = c .before .before .before .before .loop in
+    let bad = badStart (a .kind) (a .size) in
+    (omega arith, cc (any-next bad (now (a .s)) (l .i) (omega arith), or-assoc (l .bad) (bad (getD (now (a .s)) (l .i) 0)) (any bad (drop (l .i + 1) (now (a .s))))))
 
-returns-2 : tie.Need-returns-2 Inv-loop μ-loop
-returns-2 c =
+returns : tie.Need-returns Inv-loop μ-loop
+returns c =
     let a = c .before .before .before .args in
-    cc (any-none (badStart (a .kind) (a .size)) (now (a .s)) (c .before .loop .i) (omega arith))
+    let bad = badStart (a .kind) (a .size) in
+    cc (any-none bad (now (a .s)) (c .before .loop .i) (omega arith), or-false (c .before .loop .bad))
 
 pub any-bad-start-spec : {M : Type 1} → statement M
 any-bad-start-spec =
@@ -42,10 +41,10 @@ any-bad-start-spec =
     Inv-loop
     μ-loop
     loop-holds
-    (λ c. search needs)
+    (λ c. omega arith)
     (λ c κs. search needs)
-    returns
+    (λ c κs. search needs)
     (λ c. omega arith)
     (λ c. omega arith)
     loop-again
-    returns-2)
+    returns)
