@@ -1,1 +1,3 @@
 pub mod Sample
+pub mod PutLaws
+pub mod TextLaws
