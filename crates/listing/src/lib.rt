@@ -8,7 +8,7 @@ ghost use Rattle.listing.specs.Put.{Put};
 ghost use Rattle.listing.specs.Text.{decimal};
 ghost use Rattle.listing.specs.Text.{headLine, refusedLine, processLine, processLines, ranText, Listed};
 ghost use Rattle.model.specs.Run.{lineWidth};
-ghost use Rattle.model.specs.Report.{Ran, ranOf};
+use engine::runs;
 use model::Outcome;
 
 // The most bytes of an input.
@@ -120,4 +120,16 @@ fn put_ran(input: &[u8], ran: Outcome, report: &[u32; 128], text: &mut [u8]) -> 
     let n = byte_at(input, 3);
     let next = put_head(kind as u32, n as u32, ran.at, text);
     put_lines(report, n as usize, next, text)
+}
+
+// The text that the program prints for an input.
+pub fn list(input: &[u8], text: &mut [u8; 2048]) -> usize
+    ensures { λ r. ⌜ Listed (now (input .entry)) (now (text .entry)) r (now (text .exit)) ⌝ }
+{
+    if input.len() > MOST_INPUT {
+        return put_word(b"input over 65536\n", 0, text);
+    }
+    let mut report = [0; 128];
+    let ran = runs::run(input, &mut report);
+    put_ran(input, ran, &report, text)
 }
