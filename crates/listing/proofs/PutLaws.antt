@@ -40,6 +40,11 @@ put-then {at = at} {a = a} {b = b} {s = s} p q =
       text = rw (q .text, p .end, p .text) (spliced-then at a b s (p .inside));
     }
 
+-- nothing
+pub put-none : (at : ℕ) (s : List ℕ) → at ≤ length s → Put 0 at [] s at s
+unfolding spliced
+put-none at s h = record { short = omega arith; inside = h; end = omega arith; text = rw (add-zero, take-append-drop) }
+
 -- one byte
 pub put-one : (b at : ℕ) (s : List ℕ) → at < length s → Put 1 at (b ∷ []) s (at + 1) (set s at b)
 unfolding spliced
@@ -120,8 +125,3 @@ decimal-more x h f = rw (← tenth-enough x f) (sym (digits-more 9 x h))
 pub lines-more : (report : List ℕ) (j : ℕ) → processLines report j ++ processLine report j ≡ processLines report (j + 1)
 unfolding processLines
 lines-more report j = ap (processLines report) (sym (add-one j))
-
--- nothing, at the beginning
-pub put-none : (at : ℕ) (s : List ℕ) → at ≤ length s → Put 0 at [] s at s
-unfolding spliced
-put-none at s h = record { short = omega arith; inside = h; end = omega arith; text = rw (add-zero, take-append-drop) }
