@@ -1,1 +1,4 @@
 pub mod Sample
+pub mod PutLaws
+pub mod TextLaws
+pub mod Settled

@@ -1,11 +1,13 @@
 -- What the program prints for an input (01, "The program"), as ASCII bytes.
-use Prim.Native.Nat.{ℕ, zero, suc, _+_, _*_, _/_, _%_}
+use Prim.Native.Nat.{ℕ, zero, suc, _+_, _*_, _/_, _%_, _≤_}
 use mathlib.Core.Bool.{cond}
+use mathlib.Core.Path.{_≡_}
 use mathlib.Core.List.{List, [], _∷_, _++_}
 use lib.Dec.{ltb}
-use lib.ListN.{length, getD, replicate}
+use lib.ListN.{length, take, getD, replicate}
 use Rattle.terms.specs.Limits.{mostProcesses}
 use Rattle.terms.specs.Refusal.{ifAccepted}
+use Rattle.terms.specs.Overlay.{overlay}
 use Rattle.trace.specs.Record.{byte}
 use Rattle.model.specs.Run.{lineWidth}
 use Rattle.model.specs.Report.{Ran, ranOf}
@@ -76,3 +78,10 @@ unfoldable pub textOf : List ℕ → List ℕ
 textOf input =
     cond (ltb mostInput (length input)) overLine
     (ranText input (ranOf input (replicate (lineWidth * mostProcesses) 0)))
+
+-- What the program's text leaves of a buffer that held `before`: the text's length is answered, and it lies over the buffer's front.
+-- `within` follows, and spares a caller the proof that `&text[..r]` is a part.
+pub record Listed (input before : List ℕ) (r : ℕ) (after : List ℕ) : Type 0 where
+  pub len : r ≡ length (textOf input)
+  pub text : after ≡ overlay (textOf input) before
+  pub within : (r ≤ length after) × (r ≡ length (take r after))

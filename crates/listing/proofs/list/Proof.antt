@@ -1,0 +1,36 @@
+-- `list` meets its contract: the two cases of the text, over the limit or not. The report of 128 numbers has room for every accepted setup.
+-- Assumes nothing.
+use Rattle.listing.proofs.TextLaws.{listed, accepted-fits, text-over, text-ran}
+use lib.ListN.{replicate}
+use native.Mathlib.Omega.{arith}
+use borrow.Author.Needs.{needs}
+use Rattle.listing.proofs.list.Statement.{statement}
+use Rattle.listing.proofs.list.Tie as tie
+
+returns : tie.Need-returns
+returns c =
+    let input = c .before .before .before .before .before .args .input .now in
+    listed (c .put-word .ensures) input (text-over input (c .before .before .before .if1 .taken))
+
+put-ran-requires : tie.Need-put-ran-requires
+put-ran-requires c κs =
+    let r = c .before .before .before in
+    (λ h. accepted-fits (r .before .before .before .before .args .input .now) (replicate 128 0) (rw (← r .run .ensures) h), omega arith)
+
+returns-2 : tie.Need-returns-2
+returns-2 c =
+    let r = c .before .before .before .before in
+    let input = r .before .before .before .before .args .input .now in
+    listed (c .put-ran .ensures) input (text-ran input (r .before .before .if1 .left) _ (r .run .ensures))
+
+pub list-spec : {M : Type 1} → statement M
+list-spec =
+    tie.close
+    (tie.spec
+    (λ c. search needs)
+    (λ c κs. search needs)
+    returns
+    (λ c. search needs)
+    (λ c κs. search needs)
+    put-ran-requires
+    returns-2)
