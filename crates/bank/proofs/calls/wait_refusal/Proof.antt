@@ -1,0 +1,15 @@
+use Rattle.bank.proofs.Refused.{refusals}
+use Rattle.bank.proofs.calls.wait_refusal.Statement.{statement}
+use Rattle.bank.proofs.calls.wait_refusal.Tie as tie
+
+returns : tie.Need-returns
+returns c = search refusals
+
+returns-2 : tie.Need-returns-2
+returns-2 c = search refusals
+
+returns-3 : tie.Need-returns-3
+returns-3 c = search refusals
+
+pub wait-refusal-spec : {M : Type 1} → statement M
+wait-refusal-spec = tie.close (tie.spec returns returns-2 returns-3)

@@ -1,0 +1,77 @@
+// The deadline rule, in place and without refusals: a read or a write whose numbers are known to be good. `calls` refuses the others.
+use crate::Bank;
+use terms::ProcessNumber;
+use terms::SlotNumber;
+ghost use mathlib.Core.Path.{_≡_};
+ghost use Rattle.bank.specs.Registers.{bankOf, pairOf, due};
+ghost use Rattle.bank.specs.Granted.{Pair, Tick, Wait, readGranted, writeGranted};
+
+// The place of a pair among the deadlines.
+fn pair_of(i: ProcessNumber, c: SlotNumber) -> usize
+    requires { ⌜ Pair i c ⌝ }
+    ensures { λ r. ⌜ r ≡ pairOf i c ⌝ }
+{
+    let row = (i.0 - 1) as usize;
+    row * 8 + c.0 as usize
+}
+
+// The deadline that a read at tick t with the wait d sets.
+fn due_at(t: u32, d: u32) -> u32
+    requires { ⌜ Tick t ⌝ }
+    requires { ⌜ Wait d ⌝ }
+    ensures { λ r. ⌜ r ≡ due t d ⌝ }
+{
+    if d == Bank::UNLIMITED {
+        return Bank::UNLIMITED;
+    }
+    t + d
+}
+
+// The value of register c; the pair's deadline becomes t with the wait, or unlimited.
+pub fn read_granted(
+    values: &[u32; 8],
+    deadlines: &mut [u32; 256],
+    last: &mut u32,
+    i: ProcessNumber,
+    c: SlotNumber,
+    t: u32,
+    d: u32,
+) -> u32
+    requires { ⌜ Pair i c ⌝ }
+    requires { ⌜ Tick t ⌝ }
+    requires { ⌜ Wait d ⌝ }
+    ensures { λ r. ⌜ record { value = r; bank = bankOf (now (values .entry)) (now (deadlines .exit)) (now (last .exit)) }
+        ≡ readGranted (bankOf (now (values .entry)) (now (deadlines .entry)) (now (last .entry))) i c t d ⌝ }
+{
+    let pair = pair_of(i, c);
+    deadlines[pair] = due_at(t, d);
+    *last = t;
+    let slot = c.0 as usize;
+    values[slot]
+}
+
+// True where the write is late: the value stays then, and is v otherwise. Either way the pair's deadline becomes unlimited.
+pub fn write_granted(
+    values: &mut [u32; 8],
+    deadlines: &mut [u32; 256],
+    last: &mut u32,
+    i: ProcessNumber,
+    c: SlotNumber,
+    t: u32,
+    v: u32,
+) -> bool
+    requires { ⌜ Pair i c ⌝ }
+    ensures { λ r. ⌜ record { late = r; bank = bankOf (now (values .exit)) (now (deadlines .exit)) (now (last .exit)) }
+        ≡ writeGranted (bankOf (now (values .entry)) (now (deadlines .entry)) (now (last .entry))) i c t v ⌝ }
+{
+    let pair = pair_of(i, c);
+    let deadline = deadlines[pair];
+    deadlines[pair] = Bank::UNLIMITED;
+    *last = t;
+    if t <= deadline {
+        let slot = c.0 as usize;
+        values[slot] = v;
+        return false;
+    }
+    true
+}
