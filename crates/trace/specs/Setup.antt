@@ -11,6 +11,7 @@ use Rattle.terms.specs.Overlay.{overlay}
 use Rattle.trace.specs.Record.{byte, marked, setupMark}
 use Rattle.trace.specs.declared.Setup.{Setup}
 use Rattle.trace.specs.declared.SetupRead.{SetupRead}
+use Rattle.trace.specs.declared.setups.Starts.{Starts}
 
 -- BY KIND: 3, 5 and 6
 
@@ -55,6 +56,14 @@ setupRefusal most s = headRefusal most s then startRefusal (byte 2 s) (byte 4 s)
 -- the start bytes in as many places as there may be processes, 0 beyond them
 abbrev pub places : ℕ → List ℕ → List ℕ
 places most starts = overlay starts (replicate most 0)
+
+-- what is answered of the start bytes alone: 6, or the places
+abbrev pub startsOf : ℕ → ℕ → List ℕ → Starts
+startsOf kind size starts =
+    record {
+      refusal = startRefusal kind size starts;
+      places = ifAccepted (startRefusal kind size starts) (places mostProcesses starts) (replicate mostProcesses 0);
+    }
 
 -- where each field stands
 abbrev pub setupFields : List ℕ → Setup

@@ -1,4 +1,11 @@
-// The records of a trace: a setup and its steps, read and written.
+// The records of a trace: a setup (`setups`) and its steps (`steps`), read and written.
+pub mod setups;
+pub mod steps;
+
+ghost use mathlib.Core.Path.{_≡_};
+ghost use mathlib.Core.List.{[], _∷_};
+ghost use Rattle.terms.specs.Refusal.{outside};
+ghost use Rattle.trace.specs.Record.{marked};
 use terms::ProcessNumber;
 
 const SETUP_MARK: [u8; 2] = [0x4F, 0x53];
@@ -37,4 +44,35 @@ pub struct StepRead {
 pub struct Written {
     pub refusal: u32,
     pub len: usize,
+}
+
+impl Written {
+    fn refused(no: u32) -> Self
+        ensures { λ r. ⌜ r ≡ record { refusal = no; len = 0 } ⌝ }
+    {
+        Written {
+            refusal: no,
+            len: 0,
+        }
+    }
+}
+
+fn wide(x: u8) -> usize
+    ensures { λ r. ⌜ r ≡ x ⌝ }
+{
+    x as usize
+}
+
+// Whether x is not one of low .. high.
+fn is_outside(low: usize, high: usize, x: usize) -> bool
+    ensures { λ r. ⌜ r ≡ outside low high x ⌝ }
+{
+    x < low || high < x
+}
+
+// Whether the two bytes that a record begins with are its mark.
+fn is_marked(mark: [u8; 2], a: u8, b: u8) -> bool
+    ensures { λ r. ⌜ r ≡ marked mark (a ∷ b ∷ []) ⌝ }
+{
+    a == mark[0] && b == mark[1]
 }
