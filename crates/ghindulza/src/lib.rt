@@ -5,11 +5,99 @@ use bank::WriteAnswer;
 use bank::calls;
 use terms::ProcessNumber;
 use terms::SlotNumber;
+use trace::Step;
+use trace::setups;
+use trace::steps;
 ghost use mathlib.Core.Path.{_≡_};
+ghost use lib.ListN.{length};
+ghost use Rattle.terms.specs.Limits.{mostProcesses};
 ghost use Rattle.terms.specs.Numbers.{processOf, slotOf};
 ghost use Rattle.bank.specs.Registers.{bankOf, freshBank};
 ghost use Rattle.bank.specs.Calls.{readOf, writeOf};
-ghost use Rattle.ghindulza.specs.Surface.{answerCode, readOut, writeOut};
+ghost use Rattle.trace.specs.Record.{Wrote};
+ghost use Rattle.trace.specs.Setup.{setupBytes, setupWriteRefusal};
+ghost use Rattle.trace.specs.Step.{stepRead, stepBytes, stepWriteRefusal};
+ghost use Rattle.ghindulza.specs.Surface.{setupOut, stepOut, stepOf, answerCode, readOut, writeOut};
+
+// RECORDS
+
+// `rest`: where the rest begins in `bytes`, and its length.
+#[no_mangle]
+pub extern "C" fn ghindulza_read_setup(
+    bytes: &[u8],
+    fields: &mut [u32; 5],
+    starts: &mut [u8; 32],
+    rest: &mut [u64; 2],
+) -> u32
+    ensures { λ r. ⌜ record { number = r; fields = now (fields .exit); starts = now (starts .exit); rest = now (rest .exit) } ≡ setupOut (now (bytes .entry)) ⌝ }
+{
+    let read = setups::read_setup(bytes);
+    let setup = read.setup;
+    let places = setup.starts;
+    *fields = [
+        setup.kind as u32,
+        setup.processes as u32,
+        setup.size as u32,
+        0,
+        setup.delta as u32,
+    ];
+    *starts = places;
+    if read.refusal != 0 {
+        *rest = [0, 0];
+        return read.refusal;
+    }
+    let start = 8 + setup.processes as usize;
+    *rest = [start as u64, (bytes.len() - start) as u64];
+    0
+}
+
+#[no_mangle]
+pub extern "C" fn ghindulza_read_step(bytes: &[u8], fields: &mut [u32; 3]) -> u32
+    ensures { λ r. ⌜ record { number = r; fields = now (fields .exit) } ≡ stepOut (stepRead mostProcesses (now (bytes .entry))) ⌝ }
+{
+    let read = steps::read_step(bytes);
+    let step = read.step;
+    *fields = [step.process.0, step.event as u32, step.tick];
+    read.refusal
+}
+
+#[no_mangle]
+pub extern "C" fn ghindulza_write_setup(
+    buffer: &mut [u8],
+    kind: u8,
+    size: u8,
+    delta: u16,
+    starts: &[u8],
+    len: &mut u64,
+) -> u32
+    ensures { λ r. ⌜ Wrote (setupWriteRefusal mostProcesses kind size (now (starts .entry)) (length (now (buffer .entry)))) (setupBytes kind size delta (now (starts .entry))) (now (buffer .entry))
+        (record { refusal = r; len = now (len .exit) }) (now (buffer .exit)) ⌝ }
+{
+    let wrote = setups::write_setup(kind, size, delta, starts, buffer);
+    *len = wrote.len as u64;
+    wrote.refusal
+}
+
+#[no_mangle]
+pub extern "C" fn ghindulza_write_step(
+    buffer: &mut [u8],
+    process: u8,
+    event: u8,
+    tick: u32,
+    len: &mut u64,
+) -> u32
+    ensures { λ r. ⌜ Wrote (stepWriteRefusal mostProcesses (stepOf process event tick) (length (now (buffer .entry)))) (stepBytes (stepOf process event tick)) (now (buffer .entry))
+        (record { refusal = r; len = now (len .exit) }) (now (buffer .exit)) ⌝ }
+{
+    let step = Step {
+        process: ProcessNumber(process as u32),
+        event,
+        tick,
+    };
+    let wrote = steps::write_step(step, buffer);
+    *len = wrote.len as u64;
+    wrote.refusal
+}
 
 // THE BANK
 
