@@ -55,10 +55,10 @@ pub extern "C" fn ghindulza_read_setup(
 pub extern "C" fn ghindulza_read_step(bytes: &[u8], fields: &mut [u32; 3]) -> u32
     ensures { λ r. ⌜ record { number = r; fields = now (fields .exit) } ≡ stepOut (stepRead mostProcesses (now (bytes .entry))) ⌝ }
 {
-    let read = steps::read_step(bytes);
-    let step = read.step;
+    let answer = steps::read_step(bytes);
+    let step = answer.step;
     *fields = [step.process.0, step.event as u32, step.tick];
-    read.refusal
+    answer.refusal
 }
 
 #[no_mangle]
@@ -73,9 +73,9 @@ pub extern "C" fn ghindulza_write_setup(
     ensures { λ r. ⌜ Wrote (setupWriteRefusal mostProcesses kind size (now (starts .entry)) (length (now (buffer .entry)))) (setupBytes kind size delta (now (starts .entry))) (now (buffer .entry))
         (record { refusal = r; len = now (len .exit) }) (now (buffer .exit)) ⌝ }
 {
-    let wrote = setups::write_setup(kind, size, delta, starts, buffer);
-    *len = wrote.len as u64;
-    wrote.refusal
+    let written = setups::write_setup(kind, size, delta, starts, buffer);
+    *len = written.len as u64;
+    written.refusal
 }
 
 #[no_mangle]
@@ -142,7 +142,7 @@ pub extern "C" fn ghindulza_bank_read(
     ensures { λ r. ⌜ record { number = r; bank = bankOf (now (values .exit)) (now (deadlines .exit)) (now (last .exit)); answer = now (value .exit) }
         ≡ readOut (readOf (bankOf (now (values .entry)) (now (deadlines .entry)) (now (last .entry))) (processOf process) (slotOf register) tick wait) ⌝ }
 {
-    let answer = calls::read_in(
+    let found = calls::read_in(
         values,
         deadlines,
         last,
@@ -151,8 +151,8 @@ pub extern "C" fn ghindulza_bank_read(
         tick,
         wait,
     );
-    *value = answer.value();
-    answer.number()
+    *value = found.value();
+    found.number()
 }
 
 #[no_mangle]
