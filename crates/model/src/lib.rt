@@ -1,4 +1,9 @@
 // The types of the bench. What they mean stands in specs/: Routine.antt (one process), Run.antt (one record, a trace), Report.antt.
+ghost use mathlib.Core.Path.{_≡_};
+ghost use Prim.Native.Nat.{_<_};
+ghost use Rattle.terms.specs.Limits.{mostProcesses};
+ghost use Rattle.model.specs.Routine.{routineOf};
+ghost use Rattle.model.specs.Run.{startRows};
 use bank::Bank;
 use terms::SlotNumber;
 
@@ -82,4 +87,73 @@ pub struct Reply {
 pub struct Outcome {
     pub number: u32,
     pub at: u32,
+}
+
+impl Row {
+    // A process that has not moved, at its place with slot c, that writes `own`.
+    fn unmoved(place: Place, c: u32, own: u32) -> Self
+        ensures { λ r. ⌜ r ≡ Rattle.model.specs.Routine.unmoved place c own ⌝ }
+    {
+        Row {
+            local: Local {
+                place,
+                slot: SlotNumber(c),
+                decided: 0,
+                wake: 0,
+                scan: 0,
+            },
+            own,
+            moves: 0,
+            lates: 0,
+            crashed: false,
+        }
+    }
+
+    // The row at index j, of a process with start byte x.
+    fn begin(kind: Kind, j: u32, x: u8) -> Self
+        requires { ⌜ j < mostProcesses ⌝ }
+        ensures { λ r. ⌜ r ≡ Rattle.model.specs.Routine.begin (routineOf kind) j x ⌝ }
+    {
+        let start = x as u32;
+        match kind {
+            Kind::Lock => Row::unmoved(Place::Rest, start, j + 1),
+            Kind::Plain => Row::unmoved(Place::Look, 0, start),
+            Kind::Fast => Row::unmoved(Place::Flag, 0, start),
+        }
+    }
+}
+
+impl State {
+    // The rows at the start: where the kind begins, and blank past the last process.
+    pub fn start_rows(shape: Shape, starts: [u8; 32]) -> [Row; 32]
+        ensures { λ rows. ⌜ rows ≡ startRows shape 0 starts ⌝ }
+    {
+        let kind = shape.kind;
+        let mut rows = [Row::unmoved(Place::Rest, 0, 0); 32];
+        let mut j: usize = 0;
+        while j < 32 {
+            if shape.count <= j as u32 {
+                return rows;
+            }
+            rows[j] = Row::begin(kind, j as u32, starts[j]);
+            j = j + 1;
+        }
+        rows
+    }
+
+    // The state at the start of a run.
+    pub fn fresh(shape: Shape, starts: [u8; 32]) -> Self
+        ensures { λ s. ⌜ s ≡ Rattle.model.specs.Run.fresh shape starts ⌝ }
+    {
+        State {
+            rows: State::start_rows(shape, starts),
+            bank: Bank {
+                values: [0; 8],
+                deadlines: [Bank::UNLIMITED; 256],
+                last: 0,
+            },
+            shared: Shared { flags: [false; 9] },
+            last: 0,
+        }
+    }
 }

@@ -111,8 +111,8 @@ module _ (s : List ℕ) (bytes : AllBytes s) (ok : setupRefusal mostProcesses s 
   -- from the writer's own promise, over any buffer that has room
   module _ (before after : List ℕ) (r : Written) (room : 8 + byte 3 s ≤ length before)
       (w : let t = setupRead s .setup in
-        let starts = take (t .processes) (t .starts) in
-        Wrote (setupWriteRefusal mostProcesses (t .kind) (t .size) starts (length before)) (setupBytes (t .kind) (t .size) (t .delta) starts) before r after) where
+      let starts = take (t .processes) (t .starts) in
+      Wrote (setupWriteRefusal mostProcesses (t .kind) (t .size) starts (length before)) (setupBytes (t .kind) (t .size) (t .delta) starts) before r after) where
     writes : WritableSetup mostProcesses (byte 2 s) (byte 4 s) (startBytes s) (length before)
     writes =
         let l = known .head .limits in
@@ -135,9 +135,10 @@ module _ (s : List ℕ) (bytes : AllBytes s) (ok : setupRefusal mostProcesses s 
     setup-rewritten =
         let rec : List ℕ = setupBytes (byte 2 s) (byte 4 s) delta (startBytes s) in
         let count : length rec ≡ 8 + byte 3 s = omega (arith, start-count s (known .head .whole)) in
-        let p = wrote-whole _ rec before r after (simp (fields, starts-again) at w) (said-setup-write _ _ _ _ _ writes) in
-        (p .0 ∙ rw count,
-        p .1 ∙ ap (λ (n : ℕ). rec ++ drop n before) count ∙ ap (λ (l : List ℕ). l ++ drop (8 + byte 3 s) before) bytes-again)
+        let p = wrote-whole _ rec before r after (simp (fields, starts-again) at w) (said-setup-write _ _ _ _ _ writes) in (
+          p .0 ∙ rw count,
+          p .1 ∙ ap (λ (n : ℕ). rec ++ drop n before) count ∙ ap (λ (l : List ℕ). l ++ drop (8 + byte 3 s) before) bytes-again,
+        )
 
 -- STEPS
 

@@ -1,0 +1,164 @@
+-- One step as the code takes it, a row out and back, and what that is to the run: the loop's invariant, kept by an accepted record and turned
+-- into the run's answer by a refused one and at the end.
+-- Assumes nothing.
+use Prim.Native.Nat.{ℕ, _+_, _*_, _-_, _≤_, _<_}
+use mathlib.Core.Path.{_≡_, refl, sym, ap, ap₂, subst, _∙_}
+use mathlib.Core.Bool.{Bool, true, false, cond}
+use mathlib.Core.List.{List}
+use native.Mathlib.Omega.{arith}
+use lib.ListN.{length, drop, set, length-set, length-drop}
+use Rattle.terms.specs.Limits.{mostProcesses, mostSteps, topTick}
+use Rattle.terms.specs.Numbers.{indexOf}
+use Rattle.terms.specs.Overlay.{overlay}
+use Rattle.terms.proofs.RefusalLaws.{if-accepted}
+use Rattle.bank.specs.declared.Bank.{Bank}
+use Rattle.bank.specs.Registers.{bankOf, freshBank}
+use Rattle.trace.specs.declared.Step.{Step}
+use Rattle.trace.specs.declared.StepRead.{StepRead}
+use Rattle.trace.specs.Step.{stepRefusal, stepFields, stepRead}
+use Rattle.trace.proofs.StepLaws.{step-said, AcceptedStep}
+use Rattle.model.specs.declared.Shape.{Shape}
+use Rattle.model.specs.declared.Row.{Row}
+use Rattle.model.specs.declared.Ask.{Ask}
+use Rattle.model.specs.declared.Shared.{Shared}
+use Rattle.model.specs.declared.State.{State}
+use Rattle.model.specs.Time.{wakeAt}
+use Rattle.model.specs.Routine.{routine, askAt, rowAfter, crash}
+use Rattle.model.specs.Memory.{Answered, answerOf}
+use Rattle.model.specs.Bounds.{Sound, Starts, Room}
+use Rattle.model.specs.Run.{rowAt, rowOf, startRows, fresh, move, moveAt, stop, after, isMove, judge, reach, records, Progress.going, Progress.stopped}
+use Rattle.model.specs.Report.{lines, outcomeOf, reportOf}
+use Rattle.model.proofs.RunLaws.{recordAt, judgeAt, reach-start, refused-by-bytes, refused-by-judge, accepted-by-both, reach-stays, records-end, records-past}
+use Rattle.model.proofs.Rooms.{reach-room}
+use Rattle.model.proofs.ReportLaws.{ranBy, refusedRun, ran-stopped}
+use Rattle.engine.specs.Stepped.{Numbered, Due, sharedOf, Stepped, moved, stepped, ranFrom}
+
+-- ONE STEP
+
+module _ (u : Shape) (b : Bank) (m : Shared) (r : Row) (k : Step) where
+  pub step-moves : {q : Ask} {a : Answered} {x : Row} → isMove k ≡ true
+      → q ≡ askAt (r .local .place) (u .delta) r
+      → a ≡ answerOf b m (k .process) (k .tick) q
+      → x ≡ rowAfter u (r .local .place) (wakeAt (u .delta) (k .tick)) r (a .reply)
+      → record { row = x; bank = a .bank; shared = a .shared } ≡ stepped u b m r k
+  unfolding stepped
+  step-moves h e f g = rw (h, g, f, e)
+
+  pub step-stops : {x : Row} → isMove k ≡ false → x ≡ crash r → record { row = x; bank = b; shared = m } ≡ stepped u b m r k
+  unfolding stepped
+  step-stops h e = rw (h, e)
+
+-- a step's row put back
+abbrev pub back : State → Step → Stepped → State
+back s k x = record { rows = set (s .rows) (indexOf (k .process)) (x .row); bank = x .bank; shared = x .shared; last = k .tick }
+
+-- is the state after it
+pub stepped-after : (u : Shape) (s : State) (k : Step) {x : Stepped} → x ≡ stepped u (s .bank) (s .shared) (rowOf s (k .process)) k
+    → back s k x ≡ after u s k
+unfolding stepped after moveAt stop
+stepped-after u s k e = ap (back s k) e ∙ by (isMove k)
+  where
+    r : Row
+    r = rowOf s (k .process)
+
+    by : (b : Bool) → back s k (cond b (moved u (r .local .place) r (k .tick) (answerOf (s .bank) (s .shared) (k .process) (k .tick) (askAt (r .local .place) (u .delta) r))) (record { row = crash r; bank = s .bank; shared = s .shared }))
+        ≡ cond b (move u s (k .process) (k .tick)) (stop s (k .process) (k .tick))
+    by true = refl
+    by false = refl
+
+-- THE LOOP
+
+abbrev pub stateOf : List Row → List ℕ → List ℕ → ℕ → List Bool → ℕ → State
+stateOf rows values deadlines touched flags last =
+    record { rows = rows; bank = bankOf values deadlines touched; shared = sharedOf flags; last = last }
+
+-- at byte `at` of the records k of them are accepted, and led from state x to state s
+pub record Going (u : Shape) (x : State) (rest : List ℕ) (s : State) (at k : ℕ) : Type 0 where
+  pub here : at ≡ k * 8
+  pub inside : at ≤ length rest
+  pub long : length (s .rows) ≡ mostProcesses
+  pub so-far : reach u x rest k ≡ going s
+
+pub begins : (u : Shape) (x : State) (rest : List ℕ) → length (x .rows) ≡ mostProcesses → Going u x rest x 0 0
+begins u x rest l = record { here = refl; inside = omega arith; long = l; so-far = reach-start u x rest }
+
+pub begun : {u : Shape} {x y : State} {rest : List ℕ} {s : State} {at k : ℕ} → x ≡ y → Going u x rest s at k → Going u y rest s at k
+begun {u} {rest = rest} {s} {at} {k} e g = subst (λ (x : State). Going u x rest s at k) e g
+
+module _ (u : Shape) (xs rest : List ℕ) (s : State) (at k : ℕ) (g : Going u (fresh u xs) rest s at k) (left : at < length rest) (read : StepRead)
+    (reads : read ≡ stepRead (u .count) (drop at rest)) where
+  bytes : drop at rest ≡ recordAt rest k
+  bytes = ap (λ (i : ℕ). drop i rest) (g .here)
+
+  number : read .refusal ≡ stepRefusal (u .count) (recordAt rest k)
+  unfolding stepRead
+  number = ap (λ (x : StepRead). x .refusal) reads ∙ ap (stepRefusal (u .count)) bytes
+
+  ended : {x : ℕ} → reach u (fresh u xs) rest (k + 1) ≡ stopped x (k + 1) → (old : List ℕ) → refusedRun x (k + 1) old ≡ ranFrom u xs rest old
+  ended e old =
+      let more : k + 1 ≤ records rest = records-past rest k (omega (arith, g .here)) in
+      ran-stopped u rest old (reach-stays u (fresh u xs) rest (k + 1) (records rest) e more)
+
+  -- refused by its bytes
+  pub unread : (read .refusal ≡ 0 → ⊥) → (old : List ℕ) → refusedRun (read .refusal) (k + 1) old ≡ ranFrom u xs rest old
+  unread h = ended (refused-by-bytes u (fresh u xs) rest k (g .so-far) (λ z. h (number ∙ z)) ∙ ap (λ (x : ℕ). stopped x (k + 1)) (sym number))
+
+  module _ (sound : read .refusal ≡ 0) where
+    accepted : stepRefusal (u .count) (recordAt rest k) ≡ 0
+    accepted = sym number ∙ sound
+
+    fields : read .step ≡ stepFields (recordAt rest k)
+    unfolding stepRead
+    fields = ap (λ (x : StepRead). x .step) reads ∙ if-accepted _ (ap (stepRefusal (u .count)) bytes ∙ accepted) _ _ ∙ ap stepFields bytes
+
+    said : AcceptedStep (u .count) (recordAt rest k)
+    said = step-said (u .count) (recordAt rest k) accepted
+
+    judged : judge (rowOf s (read .step .process)) (s .last) (read .step) ≡ judgeAt s (recordAt rest k)
+    judged = ap (λ (x : Step). judge (rowOf s (x .process)) (s .last) x) fields
+
+    -- what the code's indices and sums need
+    pub whole : at + 8 ≤ length rest
+    whole = omega (arith, said .eight, g .here, length-drop (k * 8) rest)
+
+    pub due : u .count ≤ mostProcesses → Due (read .step)
+    due few =
+        subst Due (sym fields)
+        (record {
+          numbered = record { least = said .limits .processLow; most = omega (arith, said .limits .processHigh) };
+          tick = said .limits .tickHigh;
+        })
+
+    pub among : indexOf (read .step .process) < u .count
+    among = subst (λ (x : Step). indexOf (x .process) < u .count) (sym fields) (omega (arith, said .limits .processLow, said .limits .processHigh))
+
+    pub roomy : Sound u → Starts u xs → length rest ≤ 8 * mostSteps → Room u (rowOf s (read .step .process))
+    roomy so st few = reach-room u so xs st rest k (g .so-far) (omega (arith, g .here)) (indexOf (read .step .process)) among
+
+    -- refused by the state
+    pub unfit : (y : ℕ) → y ≡ judge (rowOf s (read .step .process)) (s .last) (read .step) → (y ≡ 0 → ⊥) → (old : List ℕ) → refusedRun y (k + 1) old ≡ ranFrom u xs rest old
+    unfit y e h =
+        ended (refused-by-judge u (fresh u xs) rest k (g .so-far) accepted (λ z. h (e ∙ judged ∙ z)) ∙ ap (λ (x : ℕ). stopped x (k + 1)) (sym (e ∙ judged)))
+
+    -- accepted
+    pub lands : {y : ℕ} {x : Stepped} → y ≡ judge (rowOf s (read .step .process)) (s .last) (read .step) → y ≡ 0
+        → x ≡ stepped u (s .bank) (s .shared) (rowOf s (read .step .process)) (read .step)
+        → Going u (fresh u xs) rest (back s (read .step) x) (at + 8) (k + 1)
+    lands e z p =
+        record {
+          here = omega (arith, g .here);
+          inside = whole;
+          long = simp length-set (g .long);
+          so-far =
+              accepted-by-both u (fresh u xs) rest k (g .so-far) accepted (sym judged ∙ sym e ∙ z)
+              ∙ ap going (sym (stepped-after u s (read .step) p ∙ ap (after u s) fields));
+        }
+
+-- at the end of the bytes, with the lines written
+pub ends : (u : Shape) (xs rest : List ℕ) (s : State) (at k : ℕ) → Going u (fresh u xs) rest s at k → length rest ≤ at → (old now : List ℕ)
+    → now ≡ overlay (lines (routine u) (s .rows) (u .count)) old → record { outcome = record { number = 0; at = k }; report = now } ≡ ranFrom u xs rest old
+unfolding outcomeOf reportOf
+ends u xs rest s at k g h old now e =
+    let all : records rest ≡ k = records-end rest k (omega (arith, g .here, g .inside)) in
+    ap₂ (λ (n : ℕ) (t : List ℕ). record { outcome = record { number = 0; at = n }; report = t }) (sym all) e
+    ∙ ap (ranBy u rest old) (sym (ap (reach u (fresh u xs) rest) all ∙ g .so-far))

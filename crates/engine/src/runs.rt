@@ -1,0 +1,146 @@
+// The run: a trace's records one after the other, with the state in place; and the entry point.
+ghost use mathlib.Core.Path.{_≡_};
+ghost use Prim.Native.Nat.{_*_, _≤_};
+ghost use lib.ListN.{length};
+ghost use Rattle.terms.specs.Limits.{mostSteps};
+ghost use Rattle.bank.specs.Registers.{bankOf};
+ghost use Rattle.model.specs.Bounds.{Sound, Starts, Room};
+ghost use Rattle.model.specs.Run.{lineWidth, shapeOf, kindOf};
+ghost use Rattle.model.specs.Report.{ranOf};
+ghost use Rattle.engine.specs.Stepped.{Due, sharedOf, stepped, ranFrom};
+use crate::memory;
+use crate::report;
+use crate::routine;
+use bank::Bank;
+use model::Kind;
+use model::Outcome;
+use model::Row;
+use model::Shape;
+use model::State;
+use terms::Trace;
+use trace::setups;
+use trace::steps;
+use trace::Setup;
+use trace::Step;
+
+// One accepted step of the process with row r: its row afterwards, and memory as the step leaves it.
+fn step_row(
+    shape: Shape,
+    r: Row,
+    step: Step,
+    values: &mut [u32; 8],
+    deadlines: &mut [u32; 256],
+    last: &mut u32,
+    flags: &mut [bool; 9],
+) -> Row
+    requires { ⌜ Sound shape ⌝ }
+    requires { ⌜ Room shape r ⌝ }
+    requires { ⌜ Due step ⌝ }
+    ensures { λ x. ⌜ record { row = x; bank = bankOf (now (values .exit)) (now (deadlines .exit)) (now (last .exit)); shared = sharedOf (now (flags .exit)) }
+        ≡ stepped shape (bankOf (now (values .entry)) (now (deadlines .entry)) (now (last .entry))) (sharedOf (now (flags .entry))) r step ⌝ }
+{
+    if step.event != 0 {
+        return routine::crash(r);
+    }
+    let x = r.local;
+    let place = x.place;
+    let i = step.process;
+    let tick = step.tick;
+    let q = routine::ask(place, shape.delta, r);
+    let a = memory::answer(values, deadlines, last, flags, i, tick, q);
+    routine::take(shape, place, r, tick, a)
+}
+
+// The records of `rest`, from the fresh state on.
+fn run_steps(shape: Shape, starts: [u8; 32], rest: &[u8], report: &mut [u32]) -> Outcome
+    requires { ⌜ Sound shape ⌝ }
+    requires { ⌜ Starts shape starts ⌝ }
+    requires { ⌜ length (now rest) ≤ 8 * mostSteps ⌝ }
+    requires { ⌜ lineWidth * shape .count ≤ length (now report) ⌝ }
+    ensures { λ r. ⌜ record { outcome = r; report = now (report .exit) } ≡ ranFrom shape starts (now (rest .entry)) (now (report .entry)) ⌝ }
+{
+    let kind = shape.kind;
+    let mut rows = State::start_rows(shape, starts);
+    let mut values = [0u32; 8];
+    let mut deadlines = [Bank::UNLIMITED; 256];
+    let mut touched: u32 = 0;
+    let mut flags = [false; 9];
+    let mut last: u32 = 0;
+    let mut at: usize = 0;
+    let mut k: u32 = 0;
+    while at < rest.len() {
+        let read = steps::read_step_of(shape.count, &rest[at..]);
+        k = k + 1;
+        if read.refusal != 0 {
+            return Outcome {
+                number: read.refusal,
+                at: k,
+            };
+        }
+        let step = read.step;
+        let j = (step.process.0 - 1) as usize;
+        let r = rows[j];
+        let no = routine::judge(r, last, step);
+        if no != 0 {
+            return Outcome { number: no, at: k };
+        }
+        rows[j] = step_row(shape, r, step, &mut values, &mut deadlines, &mut touched, &mut flags);
+        last = step.tick;
+        at = at + 8;
+    }
+    let n = shape.count as usize;
+    let mut j: usize = 0;
+    while j < n {
+        let r = rows[j];
+        report::write_line(kind, r, j * 4, report);
+        j = j + 1;
+    }
+    Outcome { number: 0, at: k }
+}
+
+fn kind_of(k: u8) -> Kind
+    ensures { λ r. ⌜ r ≡ kindOf k ⌝ }
+{
+    if k == 1 {
+        return Kind::Lock;
+    }
+    if k == 2 {
+        return Kind::Plain;
+    }
+    Kind::Fast
+}
+
+fn shape_of(setup: Setup) -> Shape
+    ensures { λ u. ⌜ u ≡ shapeOf setup ⌝ }
+{
+    let kind = kind_of(setup.kind);
+    Shape {
+        kind,
+        count: setup.processes as u32,
+        size: setup.size as u32,
+        delta: setup.delta as u32,
+    }
+}
+
+// A run of a trace, with its report: 0 and the count of accepted steps, or the number of a refusal and its record.
+pub fn run(trace: &[u8], report: &mut [u32]) -> Outcome
+    ensures { λ r. ⌜ record { outcome = r; report = now (report .exit) } ≡ ranOf (now (trace .entry)) (now (report .entry)) ⌝ }
+{
+    let read = setups::read_setup(trace);
+    let no = read.refusal;
+    if no != 0 {
+        return Outcome { number: no, at: 0 };
+    }
+    let setup = read.setup;
+    let n = setup.processes as usize;
+    if report.len() < 4 * n {
+        return Outcome { number: 7, at: 0 };
+    }
+    let begin = 8 + n;
+    let rest = &trace[begin..];
+    if 8 * (Trace::STEPS as usize) < rest.len() {
+        return Outcome { number: 8, at: 0 };
+    }
+    let starts = setup.starts;
+    run_steps(shape_of(setup), starts, rest, report)
+}

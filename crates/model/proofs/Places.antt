@@ -1,0 +1,126 @@
+-- Classes of places, as tests on a code, and statements on every place that one computed test proves.
+-- Assumes nothing.
+use mathlib.Core.Bool.{Bool, true, false, not, _&&_, _||_}
+use Prim.Native.Nat.{ℕ}
+use lib.Dec.{T, eqb, leb}
+use Rattle.model.specs.declared.Place.{Place}
+use Rattle.model.specs.Routine.{Routine}
+
+-- The code of a place among all places. The report's numbers are `shownOf`'s; a later place has a code of its own, and no class moves.
+abbrev pub codeOf : Place → ℕ
+codeOf Place.Rest = 0
+codeOf Place.Look = 1
+codeOf Place.Put = 2
+codeOf Place.Wait = 3
+codeOf Place.Check = 4
+codeOf Place.Critical = 5
+codeOf Place.Flag = 6
+codeOf Place.Scan = 7
+codeOf Place.Decided = 8
+
+-- CLASSES
+
+-- the places of each routine
+abbrev pub inKind : Routine → Place → Bool
+inKind Routine.Lock p = leb (codeOf p) 5
+inKind Routine.Plain p = (leb 1 (codeOf p) && leb (codeOf p) 4) || eqb (codeOf p) 8
+inKind Routine.Fast p = (leb 1 (codeOf p) && leb (codeOf p) 4) || (leb 6 (codeOf p) && leb (codeOf p) 8)
+
+-- the routines that decide by the timed register
+abbrev pub timedDecision : Routine → Bool
+timedDecision Routine.Lock = false
+timedDecision Routine.Plain = true
+timedDecision Routine.Fast = true
+
+-- the place where a process of a routine begins; that, or a blank row's
+abbrev pub startPlace : Routine → Place
+startPlace Routine.Lock = Place.Rest
+startPlace Routine.Plain = Place.Look
+startPlace Routine.Fast = Place.Flag
+
+abbrev pub begins : Routine → Place → Bool
+begins κ p = eqb (codeOf p) 0 || eqb (codeOf p) (codeOf (startPlace κ))
+
+-- at put; at scan; at look or put; decided
+abbrev pub putting : Place → Bool
+putting p = eqb (codeOf p) 2
+
+abbrev pub scanning : Place → Bool
+scanning p = eqb (codeOf p) 7
+
+abbrev pub raised : Place → Bool
+raised p = eqb (codeOf p) 1 || eqb (codeOf p) 2
+
+abbrev pub settled : Place → Bool
+settled p = eqb (codeOf p) 8
+
+-- in a decision: about to check, or decided; past a look that found the register filled
+abbrev pub checking : Place → Bool
+checking p = eqb (codeOf p) 4 || eqb (codeOf p) 8
+
+abbrev pub past : Place → Bool
+past p = (eqb (codeOf p) 3 || eqb (codeOf p) 4) || (leb 7 (codeOf p) && leb (codeOf p) 8)
+
+-- in the lock: inside; about to check, or inside; with a number that may stand in a register
+abbrev pub inside : Place → Bool
+inside p = eqb (codeOf p) 5
+
+abbrev pub claiming : Place → Bool
+claiming p = leb 4 (codeOf p) && leb (codeOf p) 5
+
+abbrev pub holding : Place → Bool
+holding p = leb 3 (codeOf p) && leb (codeOf p) 5
+
+-- ON EVERY PLACE
+
+and-left : (a b : Bool) → T (a && b) → T a
+and-left true b t = tt
+and-left false b t = t
+
+and-right : (a b : Bool) → T (a && b) → T b
+and-right true b t = t
+and-right false b t = absurd t
+
+-- a test holds at every place
+abbrev pub everywhere : (Place → Bool) → Bool
+everywhere f =
+    ((f Place.Rest && f Place.Look) && (f Place.Put && f Place.Wait)) && (((f Place.Check && f Place.Critical) && (f Place.Flag && f Place.Scan)) && f Place.Decided)
+
+pub every-place : (f : Place → Bool) → T (everywhere f) → (p : Place) → T (f p)
+every-place f t p =
+    let low : Bool = (f Place.Rest && f Place.Look) && (f Place.Put && f Place.Wait) in
+    let mid : Bool = (f Place.Check && f Place.Critical) && (f Place.Flag && f Place.Scan) in
+    let x = and-left low (mid && f Place.Decided) t in
+    let y = and-right low (mid && f Place.Decided) t in
+    let z = and-left mid (f Place.Decided) y in
+    let x0 = and-left (f Place.Rest && f Place.Look) (f Place.Put && f Place.Wait) x in
+    let x1 = and-right (f Place.Rest && f Place.Look) (f Place.Put && f Place.Wait) x in
+    let z0 = and-left (f Place.Check && f Place.Critical) (f Place.Flag && f Place.Scan) z in
+    let z1 = and-right (f Place.Check && f Place.Critical) (f Place.Flag && f Place.Scan) z in
+    elim p [
+      | Place.Rest ↦ and-left (f Place.Rest) (f Place.Look) x0
+      | Place.Look ↦ and-right (f Place.Rest) (f Place.Look) x0
+      | Place.Put ↦ and-left (f Place.Put) (f Place.Wait) x1
+      | Place.Wait ↦ and-right (f Place.Put) (f Place.Wait) x1
+      | Place.Check ↦ and-left (f Place.Check) (f Place.Critical) z0
+      | Place.Critical ↦ and-right (f Place.Check) (f Place.Critical) z0
+      | Place.Flag ↦ and-left (f Place.Flag) (f Place.Scan) z1
+      | Place.Scan ↦ and-right (f Place.Flag) (f Place.Scan) z1
+      | Place.Decided ↦ and-right mid (f Place.Decided) y
+    ]
+
+apply : (a b : Bool) → T (not a || b) → T a → T b
+apply true b t h = t
+apply false b t h = absurd h
+
+clash : (a b : Bool) → T (not (a && b)) → T a → T b → ⊥
+clash true true t h g = t
+clash true false t h g = g
+clash false b t h g = h
+
+-- one test implies another at every place; two tests never hold at once
+pub imply : (f g : Place → Bool) → T (everywhere (λ p. not (f p) || g p)) → (p : Place) → T (f p) → T (g p)
+imply f g t p = apply (f p) (g p) (every-place (λ q. not (f q) || g q) t p)
+
+pub differ : (f g : Place → Bool) → T (everywhere (λ p. not (f p && g p))) → (p : Place) → T (f p) → T (g p) → ⊥
+differ f g t p = clash (f p) (g p) (every-place (λ q. not (f q && g q)) t p)

@@ -1,0 +1,104 @@
+-- Laws of the report, and of what a run returns and leaves, as code meets them: a line more; a run that is refused before its first record,
+-- or that goes on to its records.
+-- Assumes nothing.
+use Prim.Native.Nat.{ℕ, zero, suc, _+_, _*_, _≤_, _<_}
+use mathlib.Core.Path.{_≡_, refl, sym, ap, ap₂, _∙_}
+use mathlib.Core.List.{List, [], _∷_, _++_, append-assoc}
+use native.Mathlib.Numerals.{add-one, add-two, add-three}
+use native.Mathlib.Omega.{arith}
+use borrow.Author.Tests.{lt-ltb, le-ltb}
+use lib.Dec.{ltb}
+use lib.ListN.{length, take, drop, getD, set, length-append}
+use lib.Seq.{sets-eq, take-at, drop-at, drop-drop}
+use Rattle.terms.specs.Limits.{mostProcesses, mostSteps}
+use Rattle.terms.specs.Overlay.{overlay}
+use Rattle.terms.specs.Refusal.{refuse, _then_}
+use Rattle.terms.proofs.RefusalLaws.{then-on, then-stop}
+use Rattle.trace.specs.Record.{byte}
+use Rattle.trace.specs.Setup.{setupRefusal, setupFields}
+use Rattle.model.specs.declared.Shape.{Shape}
+use Rattle.model.specs.declared.Row.{Row}
+use Rattle.model.specs.Routine.{Routine}
+use Rattle.model.specs.Run.{blank, lineWidth, shapeOf, restOf, runRefusal, runOf, records, reached, Progress, Progress.going, Progress.stopped}
+use Rattle.model.specs.Report.{shownPlace, figureOf, line, lines, reportOf, outcomeOf, Ran, ranOf}
+use Rattle.model.proofs.RunLaws.{run-refused, run-reaches}
+
+-- LINES
+
+module _ (κ : Routine) where
+  -- four stores are a line
+  pub line-stored : (r : Row) (at : ℕ) (l : List ℕ) → at + lineWidth ≤ length l
+      → set (set (set (set l at (shownPlace r)) (at + 1) (figureOf κ r)) (at + 2) (r .moves)) (at + 3) (r .lates)
+      ≡ take at l ++ (line κ r ++ drop (at + lineWidth) l)
+  unfolding line
+  line-stored r at l h =
+      rw (add-one, add-two, add-three)
+      (sets-eq (shownPlace r ∷ figureOf κ r ∷ r .moves ∷ r .lates ∷ []) l at h ∙ append-assoc (take at l) (shownPlace r ∷ figureOf κ r ∷ r .moves ∷ r .lates ∷ []) (drop (at + lineWidth) l))
+
+  pub length-lines : (rows : List Row) (k : ℕ) → length (lines κ rows k) ≡ k * lineWidth
+  unfolding line lines
+  length-lines rows zero = refl
+  length-lines rows (suc k) = simp length-append (omega (arith, length-lines rows k))
+
+  -- one line more over the front of the report
+  pub lines-more : (rows : List Row) (j : ℕ) (old now : List ℕ) → now ≡ overlay (lines κ rows j) old
+      → take (j * lineWidth) now ++ (line κ (getD rows j blank) ++ drop (j * lineWidth + lineWidth) now) ≡ overlay (lines κ rows (j + 1)) old
+  unfolding lines
+  lines-more rows j old now e =
+      let L = lines κ rows j in
+      let n : length L ≡ j * lineWidth = length-lines rows j in
+      let m : length (L ++ line κ (getD rows j blank)) ≡ j * lineWidth + lineWidth = sym (ap length (ap (lines κ rows) (add-one j))) ∙ length-lines rows (j + 1) ∙ omega arith in
+      let front : take (j * lineWidth) now ≡ L = ap (take (j * lineWidth)) e ∙ take-at L (drop (length L) old) (j * lineWidth) n in
+      let seam : drop (j * lineWidth) now ≡ drop (j * lineWidth) old = ap (drop (j * lineWidth)) e ∙ drop-at L (drop (length L) old) (j * lineWidth) n ∙ ap (λ (i : ℕ). drop i old) n in
+      let back : drop (j * lineWidth + lineWidth) now ≡ drop (j * lineWidth + lineWidth) old = sym (drop-drop lineWidth (j * lineWidth) now) ∙ ap (drop lineWidth) seam ∙ drop-drop lineWidth (j * lineWidth) old in
+      rw (add-one)
+      (ap₂ (λ (x y : List ℕ). x ++ (line κ (getD rows j blank) ++ y)) front back
+      ∙ sym (append-assoc L (line κ (getD rows j blank)) (drop (j * lineWidth + lineWidth) old))
+      ∙ ap (λ (i : ℕ). (L ++ line κ (getD rows j blank)) ++ drop i old) (sym m))
+
+-- A RUN
+
+-- what the records of `rest` return and leave, once they led to p
+abbrev pub ranBy : Shape → List ℕ → List ℕ → Progress → Ran
+ranBy u rest old p = record { outcome = outcomeOf (records rest) p; report = reportOf u old p }
+
+abbrev pub refusedRun : ℕ → ℕ → List ℕ → Ran
+refusedRun x k old = record { outcome = record { number = x; at = k }; report = old }
+
+pub ran-stopped : (u : Shape) (rest old : List ℕ) {p : Progress} {x k : ℕ} → p ≡ stopped x k → refusedRun x k old ≡ ranBy u rest old p
+unfolding outcomeOf reportOf
+ran-stopped u rest old e = sym (ap (ranBy u rest old) e)
+
+module _ (trace old : List ℕ) where
+  refused-first : (runRefusal trace (length old) ≡ 0 → ⊥) → refusedRun (runRefusal trace (length old)) 0 old ≡ ranOf trace old
+  unfolding ranOf
+  refused-first h = ran-stopped (shapeOf (setupFields trace)) (restOf trace) old (run-refused trace (length old) h)
+
+  refused-as : (x : ℕ) → runRefusal trace (length old) ≡ suc x → refusedRun (suc x) 0 old ≡ ranOf trace old
+  refused-as x e = ap (λ (y : ℕ). refusedRun y 0 old) (sym e) ∙ refused-first (λ z. absurd (omega arith))
+
+  -- 1 to 6; 7; 8
+  pub ran-unset : (x : ℕ) → x ≡ setupRefusal mostProcesses trace → (x ≡ 0 → ⊥) → refusedRun x 0 old ≡ ranOf trace old
+  unfolding runRefusal
+  ran-unset x e h =
+      let no : setupRefusal mostProcesses trace ≡ 0 → ⊥ = λ z. h (e ∙ z) in
+      let one = then-stop (setupRefusal mostProcesses trace) no (refuse 7 (ltb (length old) (lineWidth * byte 3 trace))) in
+      let all : runRefusal trace (length old) ≡ setupRefusal mostProcesses trace = then-stop _ (λ z. no (sym one ∙ z)) _ ∙ one in
+      ap (λ (y : ℕ). refusedRun y 0 old) (e ∙ sym all) ∙ refused-first (λ z. no (sym all ∙ z))
+
+  module _ (set : setupRefusal mostProcesses trace ≡ 0) where
+    pub ran-narrow : length old < lineWidth * byte 3 trace → refusedRun 7 0 old ≡ ranOf trace old
+    unfolding runRefusal
+    ran-narrow h = refused-as 6 (rw (set, lt-ltb (length old) (lineWidth * byte 3 trace) h))
+
+    module _ (wide : lineWidth * byte 3 trace ≤ length old) where
+      pub ran-long : 8 * mostSteps < length (restOf trace) → refusedRun 8 0 old ≡ ranOf trace old
+      unfolding runRefusal
+      ran-long h = refused-as 7 (rw (set, le-ltb (length old) (lineWidth * byte 3 trace) wide, lt-ltb (8 * mostSteps) (length (restOf trace)) h))
+
+      -- and then the records
+      pub ran-on : length (restOf trace) ≤ 8 * mostSteps → ranBy (shapeOf (setupFields trace)) (restOf trace) old (reached trace (records (restOf trace))) ≡ ranOf trace old
+      unfolding runRefusal ranOf
+      ran-on h =
+          let accepted : runRefusal trace (length old) ≡ 0 = rw (set, le-ltb (length old) (lineWidth * byte 3 trace) wide, le-ltb (8 * mostSteps) (length (restOf trace)) h) in
+          ap (ranBy (shapeOf (setupFields trace)) (restOf trace) old) (sym (run-reaches trace (length old) accepted))

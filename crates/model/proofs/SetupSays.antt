@@ -1,0 +1,71 @@
+-- What an accepted setup says of the shape and the start bytes of its run, and an accepted run of the report and the bytes.
+-- Assumes nothing.
+use Prim.Native.Nat.{ℕ, _+_, _*_, _≤_, _<_}
+use mathlib.Core.Path.{_≡_, refl}
+use mathlib.Core.Bool.{Bool, true, false, cond}
+use mathlib.Core.List.{List}
+use native.Mathlib.Omega.{arith}
+use lib.Dec.{eqb}
+use lib.ListN.{length, getD}
+use borrow.Author.Tests.{eqb-true, eqb-false, ltb-false, le-ltb}
+use Rattle.terms.specs.Limits.{mostProcesses, mostSteps}
+use Rattle.terms.proofs.RefusalLaws.{passed}
+use Rattle.trace.specs.Record.{byte}
+use Rattle.trace.specs.Setup.{badStart, startBytes, setupRefusal, setupFields}
+use Rattle.trace.proofs.SetupLaws.{AcceptedSetup, setup-said, start-good, slot-said, proposal-said, start-count, place-at, length-places}
+use Rattle.model.specs.declared.Kind.{Kind}
+use Rattle.model.specs.Routine.{routineOf}
+use Rattle.model.specs.Bounds.{Bytes, Sound, startOk, Starts}
+use Rattle.model.specs.Run.{kindOf, shapeOf, restOf, lineWidth, runRefusal}
+
+start-ok : (kind size x : ℕ) → badStart kind size x ≡ false → startOk (routineOf (kindOf kind)) size x
+start-ok kind size x good = by (eqb kind 1) refl (eqb kind 2)
+  where
+    by : (b : Bool) → eqb kind 1 ≡ b → (c : Bool) → startOk (routineOf (cond b Kind.Lock (cond c Kind.Plain Kind.Fast))) size x
+    by true e c = slot-said size x (rw (eqb-true kind 1 e) at good)
+    by false e true = proposal-said kind (eqb-false kind 1 e) size x good
+    by false e false = proposal-said kind (eqb-false kind 1 e) size x good
+
+module _ (trace : List ℕ) (h : setupRefusal mostProcesses trace ≡ 0) where
+  said : AcceptedSetup mostProcesses trace
+  said = setup-said mostProcesses trace h
+
+  pub setup-sound : Bytes trace → Sound (shapeOf (setupFields trace))
+  setup-sound bytes =
+      let l = said .head .limits in
+      record {
+        some = l .someone;
+        few = l .few;
+        sized = l .sizeLow;
+        slim = l .sizeHigh;
+        bounded = omega (arith, bytes 6, bytes 7);
+      }
+
+  pub setup-starts : Starts (shapeOf (setupFields trace)) (setupFields trace .starts)
+  setup-starts =
+      let whole = said .head .whole in
+      record {
+        long = length-places mostProcesses (startBytes trace) (omega (arith, start-count trace whole, said .head .limits .few));
+        each =
+            λ j below.
+            rw (place-at trace whole mostProcesses j below)
+            (start-ok (byte 2 trace) (byte 4 trace) (byte (8 + j) trace) (start-good mostProcesses trace said j below));
+      }
+
+-- a setup that is accepted, and room for the report and the steps
+pub record Runs (trace : List ℕ) (room : ℕ) : Type 0 where
+  pub setup : setupRefusal mostProcesses trace ≡ 0
+  pub lines : lineWidth * byte 3 trace ≤ room
+  pub short : length (restOf trace) ≤ 8 * mostSteps
+
+module _ (trace : List ℕ) (room : ℕ) where
+  pub run-said : runRefusal trace room ≡ 0 → Runs trace room
+  unfolding runRefusal
+  run-said h =
+      let p = passed 7 _ _ h in
+      let q = passed 6 _ _ (p .0) in
+      record { setup = q .0; lines = ltb-false _ _ (q .1); short = ltb-false _ _ (p .1) }
+
+  pub said-run : Runs trace room → runRefusal trace room ≡ 0
+  unfolding runRefusal
+  said-run r = simp (r .setup, le-ltb _ _ (r .lines), le-ltb _ _ (r .short))
