@@ -7,7 +7,10 @@ use Rattle.terms.proofs.Settles.{Settles}
 use Rattle.bank.specs.declared.Bank.{Bank}
 use Rattle.bank.specs.Registers.{bankOf}
 use Rattle.trace.specs.declared.Written.{Written}
+use Rattle.model.specs.Report.{Ran}
 use Rattle.ghindulza.specs.Surface.{SetupOut, StepOut, BankOut}
+use Rattle.ghindulza.proofs.ghindulza_run.Kinds as run-kinds
+use Rattle.ghindulza.proofs.ghindulza_run.Reads as run-reads
 use Rattle.ghindulza.proofs.ghindulza_read_setup.Kinds as read-setup-kinds
 use Rattle.ghindulza.proofs.ghindulza_read_setup.Reads as read-setup-reads
 use Rattle.ghindulza.proofs.ghindulza_read_step.Kinds as read-step-kinds
@@ -22,6 +25,11 @@ use Rattle.ghindulza.proofs.ghindulza_bank_read.Kinds as bank-read-kind
 use Rattle.ghindulza.proofs.ghindulza_bank_read.Reads as bank-read-reads
 use Rattle.ghindulza.proofs.ghindulza_bank_write.Kinds as bank-write-kinds
 use Rattle.ghindulza.proofs.ghindulza_bank_write.Reads as bank-write-reads
+
+pub run-settles : Settles 3 run-kinds.ps run-kinds.r run-reads.Post
+run-settles κs a x y u v p q =
+    let e : _≡_ {A = Ran} (record { outcome = record { number = x; at = u .1 .1 .0 }; report = u .1 .0 }) (record { outcome = record { number = y; at = v .1 .1 .0 }; report = v .1 .0 }) = p ∙ sym q in
+    ((λ k. e k .outcome .number), (λ k. (tt, (e k .report, (e k .outcome .at, tt)))))
 
 pub read-setup-settles : Settles 4 read-setup-kinds.ps read-setup-kinds.r read-setup-reads.Post
 read-setup-settles κs a x y u v p q =

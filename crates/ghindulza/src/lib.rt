@@ -3,6 +3,7 @@
 use bank::Bank;
 use bank::WriteAnswer;
 use bank::calls;
+use engine::runs;
 use terms::ProcessNumber;
 use terms::SlotNumber;
 use trace::Step;
@@ -17,7 +18,20 @@ ghost use Rattle.bank.specs.Calls.{readOf, writeOf};
 ghost use Rattle.trace.specs.Record.{Wrote};
 ghost use Rattle.trace.specs.Setup.{setupBytes, setupWriteRefusal};
 ghost use Rattle.trace.specs.Step.{stepRead, stepBytes, stepWriteRefusal};
+ghost use Rattle.model.specs.Report.{ranOf};
 ghost use Rattle.ghindulza.specs.Surface.{setupOut, stepOut, stepOf, answerCode, readOut, writeOut};
+
+// A RUN
+
+// `at`: the count of accepted steps, or the record of the refusal.
+#[no_mangle]
+pub extern "C" fn ghindulza_run(trace: &[u8], report: &mut [u32], at: &mut u32) -> u32
+    ensures { λ r. ⌜ record { outcome = record { number = r; at = now (at .exit) }; report = now (report .exit) } ≡ ranOf (now (trace .entry)) (now (report .entry)) ⌝ }
+{
+    let outcome = runs::run(trace, report);
+    *at = outcome.at;
+    outcome.number
+}
 
 // RECORDS
 
