@@ -2,6 +2,7 @@
 use Prim.Native.Nat.{ℕ, _-_}
 use mathlib.Core.List.{List, [], _∷_}
 use lib.ListN.{length}
+use Rattle.terms.specs.Numbers.{processOf}
 use Rattle.bank.specs.declared.Bank.{Bank}
 use Rattle.bank.specs.declared.WriteAnswer.{WriteAnswer}
 use Rattle.bank.specs.declared.ReadResult.{ReadResult}
@@ -40,6 +41,10 @@ pub record StepOut : Type 0 where
 
 abbrev pub stepOut : StepRead → StepOut
 stepOut r = record { number = r .refusal; fields = r .step .process .0 ∷ r .step .event ∷ r .step .tick ∷ [] }
+
+-- the step of a process, an event and a tick given as numbers
+abbrev pub stepOf : ℕ → ℕ → ℕ → Step
+stepOf process event tick = record { process = processOf process; event = event; tick = tick }
 
 -- a bank call: the number of the refusal, the bank, and the value read, or 1 for done, 2 for late, 0 for neither
 pub record BankOut : Type 0 where

@@ -1,0 +1,2 @@
+pub mod SetupParts
+pub mod Settled

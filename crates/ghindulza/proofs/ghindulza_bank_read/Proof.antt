@@ -1,0 +1,16 @@
+-- `ghindulza::ghindulza_bank_read` meets its contract: the parts of what the bank answers. Assumes nothing.
+use borrow.Author.Needs.{needs}
+use Rattle.ghindulza.proofs.ghindulza_bank_read.Statement.{statement}
+use Rattle.ghindulza.proofs.ghindulza_bank_read.Tie as tie
+
+returns : tie.Need-returns
+returns c = cc
+
+pub ghindulza-bank-read-spec : {M : Type 1} → statement M
+ghindulza-bank-read-spec =
+    tie.close
+    (tie.spec
+    (λ c κs. search needs)
+    (λ c κs. search needs)
+    (λ c κs. search needs)
+    returns)
