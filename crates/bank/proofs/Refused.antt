@@ -1,7 +1,7 @@
 -- The refusals as the code tests them: each outcome of a test, and of a table, from what the code knows there.
 -- Assumes nothing.
 use Prim.Native.Nat.{ℕ, _<_, _≤_}
-use mathlib.Core.Path.{_≡_, sym}
+use mathlib.Core.Path.{_≡_}
 use mathlib.Core.Bool.{not, _||_, _&&_}
 use lib.Dec.{eqb, leb, ltb}
 use borrow.Author.Needs.{needs}
@@ -10,7 +10,7 @@ use Rattle.terms.specs.declared.ProcessNumber.{ProcessNumber}
 use Rattle.terms.specs.declared.SlotNumber.{SlotNumber}
 use Rattle.terms.specs.Limits.{mostProcesses, mostSlots, topTick}
 use Rattle.terms.specs.Refusal.{refuse, _then_, outside}
-use Rattle.terms.proofs.RefusalLaws.{then-on, then-stop}
+use Rattle.terms.proofs.RefusalLaws.{then-stop}
 use Rattle.bank.specs.Registers.{unlimited, topWait}
 use Rattle.bank.specs.Calls.{callRefusal, readRefusal}
 
@@ -54,23 +54,29 @@ module _ (k top free d : ℕ) where
   pub wait-too-long : top < d → (d ≡ free → ⊥) → k ≡ refuse k (ltb top d && not (eqb d free))
   wait-too-long g h = rw (lt-ltb top d g, ne-eqb d free h)
 
--- the tables, line by line
-pub first-stops : (a b : ℕ) → (a ≡ 0 → ⊥) → a ≡ (a then b)
-first-stops a b h = sym (then-stop a h b)
-
-pub first-goes-on : (a b : ℕ) → a ≡ 0 → b ≡ (a then b)
-first-goes-on a b h = sym (then-on a b h)
-
-module _ (last : ℕ) (i : ProcessNumber) (c : SlotNumber) (t : ℕ) where
-  pub call-table : (process slot tick two three : ℕ) → process ≡ refuse 11 (outside 1 mostProcesses (i .0)) → slot ≡ refuse 17 (leb mostSlots (c .0))
-      → tick ≡ refuse 13 (ltb topTick t || ltb t last) → two ≡ (process then slot) → three ≡ (two then tick) → three ≡ callRefusal last i c t
+-- the tables, line by line: the first number that is not 0 decides
+module _ (last : ℕ) (i : ProcessNumber) (c : SlotNumber) (t process : ℕ) (p : process ≡ refuse 11 (outside 1 mostProcesses (i .0))) where
+  pub process-refused : (process ≡ 0 → ⊥) → process ≡ callRefusal last i c t
   unfolding callRefusal
-  call-table process slot tick two three p s k e f = rw (f, e, p, s, k)
+  process-refused h = rw (← p, then-stop process h, then-stop process h)
 
-  pub read-table : (d call wait r : ℕ) → call ≡ callRefusal last i c t → wait ≡ refuse 18 (ltb topWait d && not (eqb d unlimited))
-      → r ≡ (call then wait) → r ≡ readRefusal last i c t d
+  module _ (none : process ≡ 0) (slot : ℕ) (s : slot ≡ refuse 17 (leb mostSlots (c .0))) where
+    pub slot-refused : (slot ≡ 0 → ⊥) → slot ≡ callRefusal last i c t
+    unfolding callRefusal
+    slot-refused h = rw (← p, none, ← s, then-stop slot h)
+
+    pub tick-decides : slot ≡ 0 → (tick : ℕ) → tick ≡ refuse 13 (ltb topTick t || ltb t last) → tick ≡ callRefusal last i c t
+    unfolding callRefusal
+    tick-decides h tick k = rw (← p, none, ← s, h, ← k)
+
+module _ (last : ℕ) (i : ProcessNumber) (c : SlotNumber) (t d call : ℕ) (known : call ≡ callRefusal last i c t) where
+  pub call-refused : (call ≡ 0 → ⊥) → call ≡ readRefusal last i c t d
   unfolding readRefusal
-  read-table d call wait r p w e = rw (e, p, w)
+  call-refused h = rw (← known, then-stop call h)
+
+  pub wait-decides : call ≡ 0 → (wait : ℕ) → wait ≡ refuse 18 (ltb topWait d && not (eqb d unlimited)) → wait ≡ readRefusal last i c t d
+  unfolding readRefusal
+  wait-decides h wait w = rw (← known, h, ← w)
 
 pub ruleset refusals = (
   needs,
@@ -85,8 +91,9 @@ pub ruleset refusals = (
   wait-within,
   wait-free,
   wait-too-long,
-  first-stops,
-  first-goes-on,
-  call-table,
-  read-table,
+  process-refused,
+  slot-refused,
+  tick-decides,
+  call-refused,
+  wait-decides,
 )

@@ -10,19 +10,9 @@ ghost use mathlib.Core.Path.{_≡_};
 ghost use mathlib.Core.Bool.{not, _||_, _&&_};
 ghost use lib.Dec.{eqb, leb, ltb};
 ghost use Rattle.terms.specs.Limits.{mostProcesses, mostSlots, topTick};
-ghost use Rattle.terms.specs.Refusal.{refuse, _then_, outside};
+ghost use Rattle.terms.specs.Refusal.{refuse, outside};
 ghost use Rattle.bank.specs.Registers.{unlimited, topWait, bankOf};
 ghost use Rattle.bank.specs.Calls.{callRefusal, readRefusal, readOf, writeOf};
-
-// Of two refusals the first that is one.
-fn first(a: u32, b: u32) -> u32
-    ensures { λ r. ⌜ r ≡ (a then b) ⌝ }
-{
-    if a == 0 {
-        return b;
-    }
-    a
-}
 
 fn process_refusal(i: ProcessNumber) -> u32
     ensures { λ r. ⌜ r ≡ refuse 11 (outside 1 mostProcesses (i .0)) ⌝ }
@@ -74,9 +64,14 @@ pub fn call_refusal(last: u32, i: ProcessNumber, c: SlotNumber, t: u32) -> u32
     ensures { λ r. ⌜ r ≡ callRefusal last i c t ⌝ }
 {
     let process = process_refusal(i);
+    if process != 0 {
+        return process;
+    }
     let slot = slot_refusal(c);
-    let tick = tick_refusal(last, t);
-    first(first(process, slot), tick)
+    if slot != 0 {
+        return slot;
+    }
+    tick_refusal(last, t)
 }
 
 // A read is refused for its wait as well: 18.
@@ -84,8 +79,10 @@ pub fn read_refusal(last: u32, i: ProcessNumber, c: SlotNumber, t: u32, d: u32) 
     ensures { λ r. ⌜ r ≡ readRefusal last i c t d ⌝ }
 {
     let call = call_refusal(last, i, c, t);
-    let wait = wait_refusal(d);
-    first(call, wait)
+    if call != 0 {
+        return call;
+    }
+    wait_refusal(d)
 }
 
 pub fn read_in(

@@ -7,11 +7,9 @@ use Rattle.bank.proofs.calls.read_refusal.Tie as tie
 returns : tie.Need-returns
 returns c = search refusals
 
+returns-2 : tie.Need-returns-2
+returns-2 c = search refusals
+
 pub read-refusal-spec : {M : Type 1} → statement M
 read-refusal-spec =
-    tie.close
-    (tie.spec
-    (λ c κs. search needs)
-    (λ c κs. search needs)
-    (λ c κs. search needs)
-    returns)
+    tie.close (tie.spec (λ c κs. search needs) returns (λ c κs. search needs) returns-2)
