@@ -1,3 +1,2 @@
-pub mod RoutineLaws
 pub mod StepLaws
 pub mod EntryLaws

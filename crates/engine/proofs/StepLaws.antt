@@ -12,7 +12,8 @@ use Rattle.terms.specs.Numbers.{indexOf}
 use Rattle.terms.specs.Overlay.{overlay}
 use Rattle.terms.proofs.RefusalLaws.{if-accepted}
 use Rattle.bank.specs.declared.Bank.{Bank}
-use Rattle.bank.specs.Registers.{bankOf, freshBank}
+use Rattle.bank.specs.Registers.{bankOf}
+use Rattle.bank.specs.Granted.{Seen, Stored}
 use Rattle.trace.specs.declared.Step.{Step}
 use Rattle.trace.specs.declared.StepRead.{StepRead}
 use Rattle.trace.specs.Step.{stepRefusal, stepFields, stepRead}
@@ -34,6 +35,14 @@ use Rattle.model.proofs.ReportLaws.{ranBy, refusedRun, ran-stopped}
 use Rattle.engine.specs.Stepped.{Numbered, Due, sharedOf, Stepped, moved, stepped, ranFrom}
 
 -- ONE STEP
+
+-- a read and a write of the bank, as memory's answer
+abbrev pub answeredRead : Shared → Seen → Answered
+answeredRead m x = record { reply = record { value = x .value; late = false }; bank = x .bank; shared = m }
+
+abbrev pub answeredWrite : Shared → Stored → Answered
+answeredWrite m x = record { reply = record { value = 0; late = x .late }; bank = x .bank; shared = m }
+
 
 module _ (u : Shape) (b : Bank) (m : Shared) (r : Row) (k : Step) where
   pub step-moves : {q : Ask} {a : Answered} {x : Row} → isMove k ≡ true

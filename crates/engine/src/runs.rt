@@ -10,7 +10,6 @@ ghost use Rattle.model.specs.Report.{ranOf};
 ghost use Rattle.engine.specs.Stepped.{Due, sharedOf, stepped, ranFrom};
 use crate::memory;
 use crate::report;
-use crate::routine;
 use bank::Bank;
 use model::Kind;
 use model::Outcome;

@@ -1,4 +1,4 @@
-use Rattle.engine.proofs.RoutineLaws.{answeredRead, answeredWrite}
+use Rattle.engine.proofs.StepLaws.{answeredRead, answeredWrite}
 use Rattle.engine.specs.Stepped.{sharedOf}
 use Rattle.model.specs.Bounds.{AskFits}
 use denote.Ref.{now}

@@ -23,7 +23,7 @@ use Rattle.engine.proofs.runs.run_steps.Tie as tie
 use Rattle.engine.proofs.runs.run_steps.Reads as reads
 use Rattle.engine.proofs.runs.run_steps.Lts as lts
 use Rattle.engine.proofs.report.write_line.Reads as write-line-reads
-use Rattle.engine.proofs.routine.judge.Reads as judge-reads
+use Rattle.routine.proofs.judge.Reads as judge-reads
 use Rattle.engine.proofs.runs.step_row.Reads as step-row-reads
 use Rattle.model.proofs.State.start_rows.Reads as start-rows-reads
 use Rattle.trace.proofs.steps.read_step_of.Reads as read-step-of-reads

@@ -8,9 +8,9 @@ use Rattle.engine.proofs.runs.step_row.Tie as tie
 use Rattle.engine.proofs.runs.step_row.Reads as reads
 use Rattle.engine.proofs.runs.step_row.Lts as lts
 use Rattle.engine.proofs.memory.answer.Reads as answer-reads
-use Rattle.engine.proofs.routine.ask.Reads as ask-reads
-use Rattle.engine.proofs.routine.crash.Reads as crash-reads
-use Rattle.engine.proofs.routine.take.Reads as take-reads
+use Rattle.routine.proofs.ask.Reads as ask-reads
+use Rattle.routine.proofs.crash.Reads as crash-reads
+use Rattle.routine.proofs.take.Reads as take-reads
 
 -- src/runs.rt:43:9
 crash-requires : tie.Need-crash-requires

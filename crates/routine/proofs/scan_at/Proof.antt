@@ -2,12 +2,12 @@ use Rattle.model.specs.Routine.{scans}
 use borrow.Author.Tests.{le-leb, lt-leb}
 use mathlib.Core.Path.{ap, _∙_}
 use borrow.Author.Needs.{needs}
-use Rattle.engine.proofs.routine.scan_at.Statement.{statement}
-use Rattle.engine.proofs.routine.scan_at.Tie as tie
-use Rattle.engine.proofs.routine.scan_at.Reads as reads
-use Rattle.engine.proofs.routine.scan_at.Lts as lts
-use Rattle.engine.proofs.routine.scans.Reads as scans-reads
-use Rattle.engine.proofs.routine.to.Reads as to-reads
+use Rattle.routine.proofs.scan_at.Statement.{statement}
+use Rattle.routine.proofs.scan_at.Tie as tie
+use Rattle.routine.proofs.scan_at.Reads as reads
+use Rattle.routine.proofs.scan_at.Lts as lts
+use Rattle.routine.proofs.scans.Reads as scans-reads
+use Rattle.routine.proofs.to.Reads as to-reads
 
 -- src/routine.rt:182:25
 to-requires : tie.Need-to-requires

@@ -1,8 +1,8 @@
 use borrow.Author.Needs.{needs}
-use Rattle.engine.proofs.routine.ask.Statement.{statement}
-use Rattle.engine.proofs.routine.ask.Tie as tie
-use Rattle.engine.proofs.routine.ask.Reads as reads
-use Rattle.engine.proofs.routine.ask.Lts as lts
+use Rattle.routine.proofs.ask.Statement.{statement}
+use Rattle.routine.proofs.ask.Tie as tie
+use Rattle.routine.proofs.ask.Reads as reads
+use Rattle.routine.proofs.ask.Lts as lts
 
 -- src/routine.rt:28:24
 enum-told : tie.Need-enum-told

@@ -1,11 +1,11 @@
 use borrow.Author.Needs.{needs}
-use Rattle.engine.proofs.routine.next.Statement.{statement}
-use Rattle.engine.proofs.routine.next.Tie as tie
-use Rattle.engine.proofs.routine.next.Reads as reads
-use Rattle.engine.proofs.routine.next.Lts as lts
-use Rattle.engine.proofs.routine.fast_next.Reads as fast-next-reads
-use Rattle.engine.proofs.routine.lock_next.Reads as lock-next-reads
-use Rattle.engine.proofs.routine.plain_next.Reads as plain-next-reads
+use Rattle.routine.proofs.next.Statement.{statement}
+use Rattle.routine.proofs.next.Tie as tie
+use Rattle.routine.proofs.next.Reads as reads
+use Rattle.routine.proofs.next.Lts as lts
+use Rattle.routine.proofs.fast_next.Reads as fast-next-reads
+use Rattle.routine.proofs.lock_next.Reads as lock-next-reads
+use Rattle.routine.proofs.plain_next.Reads as plain-next-reads
 
 -- src/routine.rt:232:23
 enum-told : tie.Need-enum-told

@@ -1,11 +1,11 @@
 use native.Mathlib.Omega.{arith}
 use borrow.Author.Needs.{needs}
-use Rattle.engine.proofs.routine.take.Statement.{statement}
-use Rattle.engine.proofs.routine.take.Tie as tie
-use Rattle.engine.proofs.routine.take.Reads as reads
-use Rattle.engine.proofs.routine.take.Lts as lts
-use Rattle.engine.proofs.routine.next.Reads as next-reads
-use Rattle.engine.proofs.routine.one_if.Reads as one-if-reads
+use Rattle.routine.proofs.take.Statement.{statement}
+use Rattle.routine.proofs.take.Tie as tie
+use Rattle.routine.proofs.take.Reads as reads
+use Rattle.routine.proofs.take.Lts as lts
+use Rattle.routine.proofs.next.Reads as next-reads
+use Rattle.routine.proofs.one_if.Reads as one-if-reads
 
 -- src/routine.rt:252:16
 add-wake : tie.Need-add-wake

@@ -2,14 +2,14 @@ use Rattle.model.specs.Routine.{until, decides}
 use borrow.Author.Tests.{eq-eqb, ne-eqb}
 use mathlib.Core.Path.{ap, _∙_}
 use borrow.Author.Needs.{needs}
-use Rattle.engine.proofs.routine.fast_next.Statement.{statement}
-use Rattle.engine.proofs.routine.fast_next.Tie as tie
-use Rattle.engine.proofs.routine.fast_next.Reads as reads
-use Rattle.engine.proofs.routine.fast_next.Lts as lts
-use Rattle.engine.proofs.routine.decides.Reads as decides-reads
-use Rattle.engine.proofs.routine.scan_from.Reads as scan-from-reads
-use Rattle.engine.proofs.routine.to.Reads as to-reads
-use Rattle.engine.proofs.routine.until.Reads as until-reads
+use Rattle.routine.proofs.fast_next.Statement.{statement}
+use Rattle.routine.proofs.fast_next.Tie as tie
+use Rattle.routine.proofs.fast_next.Reads as reads
+use Rattle.routine.proofs.fast_next.Lts as lts
+use Rattle.routine.proofs.decides.Reads as decides-reads
+use Rattle.routine.proofs.scan_from.Reads as scan-from-reads
+use Rattle.routine.proofs.to.Reads as to-reads
+use Rattle.routine.proofs.until.Reads as until-reads
 
 -- src/routine.rt:204:24
 enum-told : tie.Need-enum-told

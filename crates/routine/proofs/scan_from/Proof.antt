@@ -1,10 +1,10 @@
 use borrow.Author.Tests.{eq-eqb, ne-eqb}
 use borrow.Author.Needs.{needs}
-use Rattle.engine.proofs.routine.scan_from.Statement.{statement}
-use Rattle.engine.proofs.routine.scan_from.Tie as tie
-use Rattle.engine.proofs.routine.scan_from.Reads as reads
-use Rattle.engine.proofs.routine.scan_from.Lts as lts
-use Rattle.engine.proofs.routine.scan_at.Reads as scan-at-reads
+use Rattle.routine.proofs.scan_from.Statement.{statement}
+use Rattle.routine.proofs.scan_from.Tie as tie
+use Rattle.routine.proofs.scan_from.Reads as reads
+use Rattle.routine.proofs.scan_from.Lts as lts
+use Rattle.routine.proofs.scan_at.Reads as scan-at-reads
 
 -- src/routine.rt:193:30
 add-scan-at : tie.Need-add-scan-at

@@ -1,11 +1,11 @@
-use Rattle.engine.proofs.RoutineLaws.{slots-filled}
+use Rattle.routine.proofs.SlotLaws.{slots-filled}
 use native.Mathlib.Nat.{mod-eq-of-lt}
 use mathlib.Core.Path.{sym, _∙_}
 use borrow.Author.Needs.{needs}
-use Rattle.engine.proofs.routine.filled.Statement.{statement}
-use Rattle.engine.proofs.routine.filled.Tie as tie
-use Rattle.engine.proofs.routine.filled.Reads as reads
-use Rattle.engine.proofs.routine.filled.Lts as lts
+use Rattle.routine.proofs.filled.Statement.{statement}
+use Rattle.routine.proofs.filled.Tie as tie
+use Rattle.routine.proofs.filled.Reads as reads
+use Rattle.routine.proofs.filled.Lts as lts
 
 -- src/routine.rt:108:16
 add-next : tie.Need-add-next

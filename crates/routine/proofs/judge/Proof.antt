@@ -2,11 +2,11 @@ use Rattle.model.specs.Run.{judge}
 use borrow.Author.Tests.{lt-ltb, le-ltb, eq-eqb, ne-eqb}
 use mathlib.Core.Path.{sym, _∙_}
 use borrow.Author.Needs.{needs}
-use Rattle.engine.proofs.routine.judge.Statement.{statement}
-use Rattle.engine.proofs.routine.judge.Tie as tie
-use Rattle.engine.proofs.routine.judge.Reads as reads
-use Rattle.engine.proofs.routine.judge.Lts as lts
-use Rattle.engine.proofs.routine.is_decided.Reads as is-decided-reads
+use Rattle.routine.proofs.judge.Statement.{statement}
+use Rattle.routine.proofs.judge.Tie as tie
+use Rattle.routine.proofs.judge.Reads as reads
+use Rattle.routine.proofs.judge.Lts as lts
+use Rattle.routine.proofs.is_decided.Reads as is-decided-reads
 
 -- src/routine.rt:297:9
 returns : tie.Need-returns

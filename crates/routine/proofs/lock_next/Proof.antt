@@ -2,16 +2,16 @@ use Rattle.model.specs.Routine.{on, until}
 use borrow.Author.Tests.{eq-eqb, ne-eqb}
 use mathlib.Core.Path.{ap, ap₂, _∙_}
 use borrow.Author.Needs.{needs}
-use Rattle.engine.proofs.routine.lock_next.Statement.{statement}
-use Rattle.engine.proofs.routine.lock_next.Tie as tie
-use Rattle.engine.proofs.routine.lock_next.Reads as reads
-use Rattle.engine.proofs.routine.lock_next.Lts as lts
-use Rattle.engine.proofs.routine.filled.Reads as filled-reads
-use Rattle.engine.proofs.routine.leave.Reads as leave-reads
-use Rattle.engine.proofs.routine.lost.Reads as lost-reads
-use Rattle.engine.proofs.routine.on.Reads as on-reads
-use Rattle.engine.proofs.routine.to.Reads as to-reads
-use Rattle.engine.proofs.routine.until.Reads as until-reads
+use Rattle.routine.proofs.lock_next.Statement.{statement}
+use Rattle.routine.proofs.lock_next.Tie as tie
+use Rattle.routine.proofs.lock_next.Reads as reads
+use Rattle.routine.proofs.lock_next.Lts as lts
+use Rattle.routine.proofs.filled.Reads as filled-reads
+use Rattle.routine.proofs.leave.Reads as leave-reads
+use Rattle.routine.proofs.lost.Reads as lost-reads
+use Rattle.routine.proofs.on.Reads as on-reads
+use Rattle.routine.proofs.to.Reads as to-reads
+use Rattle.routine.proofs.until.Reads as until-reads
 
 -- src/routine.rt:128:27
 enum-told : tie.Need-enum-told
