@@ -38,7 +38,21 @@ pub fn ask(place: Place, delta: u32, r: Row) -> Ask
     }
 }
 
-// THE LOCAL PART at another place; at another slot; with a wait that ends at `wake`; with a decision; with the next value of a scan.
+// THE LOCAL PART as it is, field by field, since a copy of the whole carries its padding along; at another place; at another slot; with a wait that ends at `wake`; with a decision; with the next value of a scan.
+
+fn kept(x: Local) -> Local
+    ensures { λ y. ⌜ y ≡ x ⌝ }
+{
+    let place = x.place;
+    let slot = x.slot;
+    Local {
+        place,
+        slot,
+        decided: x.decided,
+        wake: x.wake,
+        scan: x.scan,
+    }
+}
 
 fn to(place: Place, x: Local) -> Local
     ensures { λ y. ⌜ y ≡ Rattle.model.specs.Routine.to place x ⌝ }
@@ -69,25 +83,43 @@ fn on(c: u32, x: Local) -> Local
 fn until(wake: u32, x: Local) -> Local
     ensures { λ y. ⌜ y ≡ Rattle.model.specs.Routine.until wake x ⌝ }
 {
-    let mut y = x;
-    y.wake = wake;
-    y
+    let place = x.place;
+    let slot = x.slot;
+    Local {
+        place,
+        slot,
+        decided: x.decided,
+        wake,
+        scan: x.scan,
+    }
 }
 
 fn decides(v: u32, x: Local) -> Local
     ensures { λ y. ⌜ y ≡ Rattle.model.specs.Routine.decides v x ⌝ }
 {
-    let mut y = x;
-    y.decided = v;
-    y
+    let place = x.place;
+    let slot = x.slot;
+    Local {
+        place,
+        slot,
+        decided: v,
+        wake: x.wake,
+        scan: x.scan,
+    }
 }
 
 fn scans(v: u32, x: Local) -> Local
     ensures { λ y. ⌜ y ≡ Rattle.model.specs.Routine.scans v x ⌝ }
 {
-    let mut y = x;
-    y.scan = v;
-    y
+    let place = x.place;
+    let slot = x.slot;
+    Local {
+        place,
+        slot,
+        decided: x.decided,
+        wake: x.wake,
+        scan: v,
+    }
 }
 
 // TAKE
@@ -100,7 +132,7 @@ fn leave(shape: Shape, x: Local) -> u32
     x.slot.0
 }
 
-// The next slot round. There is seldom a division in it.
+// The next slot round, without its division for a slot that there is.
 fn filled(shape: Shape, x: Local) -> u32
     requires { ⌜ Sound shape ⌝ }
     requires { ⌜ x .slot .0 < mostSlots ⌝ }
@@ -109,6 +141,9 @@ fn filled(shape: Shape, x: Local) -> u32
     let next = x.slot.0 + 1;
     if next < shape.size {
         return next;
+    }
+    if next == shape.size {
+        return 0;
     }
     next % shape.size
 }
@@ -147,9 +182,9 @@ fn lock_next(shape: Shape, place: Place, r: Row, wake: u32, a: Reply) -> Local
             on(lost(shape, x), to(Place::Look, x))
         }
         Place::Critical => to(Place::Rest, x),
-        Place::Flag => x,
-        Place::Scan => x,
-        Place::Decided => x,
+        Place::Flag => kept(x),
+        Place::Scan => kept(x),
+        Place::Decided => kept(x),
     }
 }
 
@@ -158,7 +193,7 @@ fn plain_next(place: Place, r: Row, wake: u32, a: Reply) -> Local
 {
     let x = r.local;
     match place {
-        Place::Rest => x,
+        Place::Rest => kept(x),
         Place::Look => {
             if a.value == 0 {
                 return to(Place::Put, x);
@@ -168,10 +203,10 @@ fn plain_next(place: Place, r: Row, wake: u32, a: Reply) -> Local
         Place::Put => to(Place::Look, x),
         Place::Wait => until(wake, to(Place::Check, x)),
         Place::Check => decides(a.value, to(Place::Decided, x)),
-        Place::Critical => x,
-        Place::Flag => x,
-        Place::Scan => x,
-        Place::Decided => x,
+        Place::Critical => kept(x),
+        Place::Flag => kept(x),
+        Place::Scan => kept(x),
+        Place::Decided => kept(x),
     }
 }
 
@@ -202,7 +237,7 @@ fn fast_next(size: u32, place: Place, r: Row, wake: u32, a: Reply) -> Local
 {
     let x = r.local;
     match place {
-        Place::Rest => x,
+        Place::Rest => kept(x),
         Place::Look => {
             if a.value == 0 {
                 return to(Place::Put, x);
@@ -212,7 +247,7 @@ fn fast_next(size: u32, place: Place, r: Row, wake: u32, a: Reply) -> Local
         Place::Put => to(Place::Look, x),
         Place::Wait => until(wake, to(Place::Check, x)),
         Place::Check => decides(a.value, to(Place::Decided, x)),
-        Place::Critical => x,
+        Place::Critical => kept(x),
         Place::Flag => to(Place::Look, x),
         Place::Scan => {
             if a.value == 0 {
@@ -220,7 +255,7 @@ fn fast_next(size: u32, place: Place, r: Row, wake: u32, a: Reply) -> Local
             }
             to(Place::Wait, x)
         }
-        Place::Decided => x,
+        Place::Decided => kept(x),
     }
 }
 
@@ -266,9 +301,14 @@ pub fn take(shape: Shape, place: Place, r: Row, tick: u32, a: Reply) -> Row
 pub fn crash(r: Row) -> Row
     ensures { λ x. ⌜ x ≡ Rattle.model.specs.Routine.crash r ⌝ }
 {
-    let mut x = r;
-    x.crashed = true;
-    x
+    let local = kept(r.local);
+    Row {
+        local,
+        own: r.own,
+        moves: r.moves,
+        lates: r.lates,
+        crashed: true,
+    }
 }
 
 // JUDGE

@@ -4,142 +4,115 @@ use mathlib.Core.Path.{ap, _∙_}
 use borrow.Author.Needs.{needs}
 use Rattle.routine.proofs.fast_next.Statement.{statement}
 use Rattle.routine.proofs.fast_next.Tie as tie
-use Rattle.routine.proofs.fast_next.Reads as reads
-use Rattle.routine.proofs.fast_next.Lts as lts
-use Rattle.routine.proofs.decides.Reads as decides-reads
-use Rattle.routine.proofs.scan_from.Reads as scan-from-reads
-use Rattle.routine.proofs.to.Reads as to-reads
-use Rattle.routine.proofs.until.Reads as until-reads
 
--- src/routine.rt:204:24
 enum-told : tie.Need-enum-told
 enum-told c = search needs
 
--- src/routine.rt:206:16
+kept-requires : tie.Need-kept-requires
+kept-requires c κs = search needs
+
 enum-told-2 : tie.Need-enum-told-2
 enum-told-2 c = search needs
 
--- src/routine.rt:207:17
 to-requires : tie.Need-to-requires
 to-requires c κs = search needs
 
--- src/routine.rt:207:17
 returns : tie.Need-returns
 returns c = rw (c .before .before .before .enum-told2 .given .1, eq-eqb _ _ (c .before .if1 .taken)) (c .to .ensures)
 
--- src/routine.rt:209:13
 scan-from-requires : tie.Need-scan-from-requires
 scan-from-requires c κs = search needs
 
--- src/routine.rt:211:26
 enum-told-3 : tie.Need-enum-told-3
 enum-told-3 c = search needs
 
--- src/routine.rt:211:23
 to-requires-2 : tie.Need-to-requires-2
 to-requires-2 c κs = search needs
 
--- src/routine.rt:212:39
 enum-told-4 : tie.Need-enum-told-4
 enum-told-4 c = search needs
 
--- src/routine.rt:212:36
 to-requires-3 : tie.Need-to-requires-3
 to-requires-3 c κs = search needs
 
--- src/routine.rt:212:24
 until-requires : tie.Need-until-requires
 until-requires c κs = search needs
 
--- src/routine.rt:213:45
 enum-told-5 : tie.Need-enum-told-5
 enum-told-5 c = search needs
 
--- src/routine.rt:213:42
 to-requires-4 : tie.Need-to-requires-4
 to-requires-4 c κs = search needs
 
--- src/routine.rt:213:25
 decides-requires : tie.Need-decides-requires
 decides-requires c κs = search needs
 
--- src/routine.rt:214:28
 enum-told-6 : tie.Need-enum-told-6
 enum-told-6 c = search needs
 
--- src/routine.rt:215:27
+kept-requires-2 : tie.Need-kept-requires-2
+kept-requires-2 c κs = search needs
+
 enum-told-7 : tie.Need-enum-told-7
 enum-told-7 c = search needs
 
--- src/routine.rt:215:24
 to-requires-5 : tie.Need-to-requires-5
 to-requires-5 c κs = search needs
 
--- src/routine.rt:217:16
 enum-told-8 : tie.Need-enum-told-8
 enum-told-8 c = search needs
 
--- src/routine.rt:218:47
 add-scan-from : tie.Need-add-scan-from
 add-scan-from c = search needs
 
--- src/routine.rt:218:17
 scan-from-requires-2 : tie.Need-scan-from-requires-2
 scan-from-requires-2 c κs = search needs
 
--- src/routine.rt:218:17
 returns-2 : tie.Need-returns-2
 returns-2 c = rw (c .before .before .before .before .enum-told8 .given .1, eq-eqb _ _ (c .before .before .if2 .taken)) (c .scan-from2 .ensures)
 
--- src/routine.rt:220:13
 to-requires-6 : tie.Need-to-requires-6
 to-requires-6 c κs = search needs
 
--- src/routine.rt:222:27
 enum-told-9 : tie.Need-enum-told-9
 enum-told-9 c = search needs
 
--- src/routine.rt:198:1
-returns-3 : tie.Need-returns-3
-returns-3 c = rw (c .enum-told .given .1)
+kept-requires-3 : tie.Need-kept-requires-3
+kept-requires-3 c κs = search needs
 
--- src/routine.rt:198:1
+returns-3 : tie.Need-returns-3
+returns-3 c = rw (c .before .enum-told .given .1) (c .kept .ensures)
+
 returns-4 : tie.Need-returns-4
 returns-4 c = rw (c .before .before .before .enum-told2 .given .1, ne-eqb _ _ (c .before .if1 .left)) (c .scan-from .ensures)
 
--- src/routine.rt:198:1
 returns-5 : tie.Need-returns-5
 returns-5 c = rw (c .before .enum-told3 .given .1) (c .to2 .ensures)
 
--- src/routine.rt:198:1
 returns-6 : tie.Need-returns-6
 returns-6 c = rw (c .before .before .enum-told4 .given .1) (c .until .ensures ∙ ap (until (c .before .before .before .before .before .args .wake)) (c .before .to3 .ensures))
 
--- src/routine.rt:198:1
 returns-7 : tie.Need-returns-7
 returns-7 c = rw (c .before .before .enum-told5 .given .1) (c .decides .ensures ∙ ap (decides (c .before .before .before .before .before .args .a .value)) (c .before .to4 .ensures))
 
--- src/routine.rt:198:1
 returns-8 : tie.Need-returns-8
-returns-8 c = rw (c .enum-told6 .given .1)
+returns-8 c = rw (c .before .enum-told6 .given .1) (c .kept2 .ensures)
 
--- src/routine.rt:198:1
 returns-9 : tie.Need-returns-9
 returns-9 c = rw (c .before .enum-told7 .given .1) (c .to5 .ensures)
 
--- src/routine.rt:198:1
 returns-10 : tie.Need-returns-10
 returns-10 c = rw (c .before .before .before .enum-told8 .given .1, ne-eqb _ _ (c .before .if2 .left)) (c .to6 .ensures)
 
--- src/routine.rt:198:1
 returns-11 : tie.Need-returns-11
-returns-11 c = rw (c .enum-told9 .given .1)
+returns-11 c = rw (c .before .enum-told9 .given .1) (c .kept3 .ensures)
 
 pub fast-next-spec : {M : Type 1} → statement M
 fast-next-spec =
     tie.close
     (tie.spec
     enum-told
+    kept-requires
     enum-told-2
     to-requires
     returns
@@ -153,6 +126,7 @@ fast-next-spec =
     to-requires-4
     decides-requires
     enum-told-6
+    kept-requires-2
     enum-told-7
     to-requires-5
     enum-told-8
@@ -161,6 +135,7 @@ fast-next-spec =
     returns-2
     to-requires-6
     enum-told-9
+    kept-requires-3
     returns-3
     returns-4
     returns-5

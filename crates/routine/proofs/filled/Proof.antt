@@ -1,27 +1,32 @@
 use Rattle.routine.proofs.SlotLaws.{slots-filled}
-use native.Mathlib.Nat.{mod-eq-of-lt}
-use mathlib.Core.Path.{sym, _∙_}
 use borrow.Author.Needs.{needs}
 use Rattle.routine.proofs.filled.Statement.{statement}
 use Rattle.routine.proofs.filled.Tie as tie
-use Rattle.routine.proofs.filled.Reads as reads
-use Rattle.routine.proofs.filled.Lts as lts
+use Prim.Native.Nat.{ℕ, _%_}
+use mathlib.Core.Path.{sym, ap, _∙_}
+use native.Mathlib.Nat.{mod-eq-of-lt, mod-self}
 
--- src/routine.rt:108:16
 add-next : tie.Need-add-next
 add-next c = search needs
 
--- src/routine.rt:110:9
 returns : tie.Need-returns
 returns c = let a = c .before .before .before .args in sym (slots-filled (a .shape) (a .x) ∙ mod-eq-of-lt (c .if1 .taken))
 
--- src/routine.rt:112:5
+returns-2 : tie.Need-returns-2
+returns-2 c = let a = c .before .before .before .before .before .args in sym (slots-filled (a .shape) (a .x) ∙ ap (λ (n : ℕ). n % a .shape .size) (c .if2 .taken) ∙ mod-self (a .shape .size))
+
 rem-result : tie.Need-rem-result
 rem-result c = search needs
 
--- src/routine.rt:103:1
-returns-2 : tie.Need-returns-2
-returns-2 c = let a = c .before .before .before .before .args in sym (slots-filled (a .shape) (a .x))
+returns-3 : tie.Need-returns-3
+returns-3 c = let a = c .before .before .before .before .before .before .args in sym (slots-filled (a .shape) (a .x))
 
 pub filled-spec : {M : Type 1} → statement M
-filled-spec = tie.close (tie.spec add-next returns rem-result returns-2)
+filled-spec =
+    tie.close
+    (tie.spec
+    add-next
+    returns
+    returns-2
+    rem-result
+    returns-3)
