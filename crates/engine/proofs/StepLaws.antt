@@ -43,7 +43,6 @@ answeredRead m x = record { reply = record { value = x .value; late = false }; b
 abbrev pub answeredWrite : Shared → Stored → Answered
 answeredWrite m x = record { reply = record { value = 0; late = x .late }; bank = x .bank; shared = m }
 
-
 pub answers-move : (u : Shape) (b : Bank) (m : Shared) (r : Row) (k : Step) {q : Ask} {a : Answered} → isMove k ≡ true
     → q ≡ askAt (r .local .place) (u .delta) r
     → a ≡ answerOf b m (k .process) (k .tick) q

@@ -1,4 +1,4 @@
-// The engine: memory's side of a move, one step of the bench, the run over a trace's bytes, the report.
-pub mod memory;
-pub mod report;
+// The engine: memory's side of a move, a run over a trace's bytes, the report.
+mod memory;
+mod report;
 pub mod runs;

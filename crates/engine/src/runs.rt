@@ -18,10 +18,10 @@ use model::Row;
 use model::Shape;
 use model::State;
 use terms::Trace;
-use trace::setups;
-use trace::steps;
 use trace::Setup;
 use trace::Step;
+use trace::setups;
+use trace::steps;
 
 // What memory answers to an accepted step of the process with row r, and what it then holds.
 fn answer_step(
@@ -85,7 +85,8 @@ fn run_steps(shape: Shape, starts: [u8; 32], rest: &[u8], report: &mut [u32]) ->
     let mut at: usize = 0;
     let mut k: u32 = 0;
     while at < rest.len() {
-        let read = steps::read_step_of(shape.count, &rest[at..]);
+        let begin = at;
+        let read = steps::read_step_of(shape.count, &rest[begin..]);
         k = k + 1;
         if read.refusal != 0 {
             return Outcome {
@@ -100,7 +101,15 @@ fn run_steps(shape: Shape, starts: [u8; 32], rest: &[u8], report: &mut [u32]) ->
         if no != 0 {
             return Outcome { number: no, at: k };
         }
-        let a = answer_step(shape, r, step, &mut values, &mut deadlines, &mut touched, &mut flags);
+        let a = answer_step(
+            shape,
+            r,
+            step,
+            &mut values,
+            &mut deadlines,
+            &mut touched,
+            &mut flags,
+        );
         // The row is read again, so that what only TAKE needs of it is not held over the answer.
         let row = rows[j];
         rows[j] = row_after(shape, row, step, a);

@@ -7,3 +7,4 @@ pub mod Rooms
 pub mod SetupSays
 pub mod StartLaws
 pub mod ReportLaws
+pub mod Settled

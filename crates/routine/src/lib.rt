@@ -233,29 +233,29 @@ fn scan_from(size: u32, own: u32, v: u32, x: Local) -> Local
 
 fn fast_next(size: u32, place: Place, r: Row, wake: u32, a: Reply) -> Local
     requires { ⌜ r .local .scan ≤ mostSlots ⌝ }
-    ensures { λ y. ⌜ y ≡ fastNext size (r .own) place (told place r a) (a .value) wake (r .local) ⌝ }
+    ensures { λ x. ⌜ x ≡ fastNext size (r .own) place (told place r a) (a .value) wake (r .local) ⌝ }
 {
-    let x = r.local;
+    let y = r.local;
     match place {
-        Place::Rest => kept(x),
+        Place::Rest => kept(y),
         Place::Look => {
             if a.value == 0 {
-                return to(Place::Put, x);
+                return to(Place::Put, y);
             }
-            scan_from(size, r.own, 1, x)
+            scan_from(size, r.own, 1, y)
         }
-        Place::Put => to(Place::Look, x),
-        Place::Wait => until(wake, to(Place::Check, x)),
-        Place::Check => decides(a.value, to(Place::Decided, x)),
-        Place::Critical => kept(x),
-        Place::Flag => to(Place::Look, x),
+        Place::Put => to(Place::Look, y),
+        Place::Wait => until(wake, to(Place::Check, y)),
+        Place::Check => decides(a.value, to(Place::Decided, y)),
+        Place::Critical => kept(y),
+        Place::Flag => to(Place::Look, y),
         Place::Scan => {
             if a.value == 0 {
-                return scan_from(size, r.own, x.scan + 1, x);
+                return scan_from(size, r.own, y.scan + 1, y);
             }
-            to(Place::Wait, x)
+            to(Place::Wait, y)
         }
-        Place::Decided => kept(x),
+        Place::Decided => kept(y),
     }
 }
 

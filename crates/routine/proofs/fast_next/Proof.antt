@@ -5,80 +5,11 @@ use borrow.Author.Needs.{needs}
 use Rattle.routine.proofs.fast_next.Statement.{statement}
 use Rattle.routine.proofs.fast_next.Tie as tie
 
-enum-told : tie.Need-enum-told
-enum-told c = search needs
-
-kept-requires : tie.Need-kept-requires
-kept-requires c κs = search needs
-
-enum-told-2 : tie.Need-enum-told-2
-enum-told-2 c = search needs
-
-to-requires : tie.Need-to-requires
-to-requires c κs = search needs
-
 returns : tie.Need-returns
 returns c = rw (c .before .before .before .enum-told2 .given .1, eq-eqb _ _ (c .before .if1 .taken)) (c .to .ensures)
 
-scan-from-requires : tie.Need-scan-from-requires
-scan-from-requires c κs = search needs
-
-enum-told-3 : tie.Need-enum-told-3
-enum-told-3 c = search needs
-
-to-requires-2 : tie.Need-to-requires-2
-to-requires-2 c κs = search needs
-
-enum-told-4 : tie.Need-enum-told-4
-enum-told-4 c = search needs
-
-to-requires-3 : tie.Need-to-requires-3
-to-requires-3 c κs = search needs
-
-until-requires : tie.Need-until-requires
-until-requires c κs = search needs
-
-enum-told-5 : tie.Need-enum-told-5
-enum-told-5 c = search needs
-
-to-requires-4 : tie.Need-to-requires-4
-to-requires-4 c κs = search needs
-
-decides-requires : tie.Need-decides-requires
-decides-requires c κs = search needs
-
-enum-told-6 : tie.Need-enum-told-6
-enum-told-6 c = search needs
-
-kept-requires-2 : tie.Need-kept-requires-2
-kept-requires-2 c κs = search needs
-
-enum-told-7 : tie.Need-enum-told-7
-enum-told-7 c = search needs
-
-to-requires-5 : tie.Need-to-requires-5
-to-requires-5 c κs = search needs
-
-enum-told-8 : tie.Need-enum-told-8
-enum-told-8 c = search needs
-
-add-scan-from : tie.Need-add-scan-from
-add-scan-from c = search needs
-
-scan-from-requires-2 : tie.Need-scan-from-requires-2
-scan-from-requires-2 c κs = search needs
-
 returns-2 : tie.Need-returns-2
 returns-2 c = rw (c .before .before .before .before .enum-told8 .given .1, eq-eqb _ _ (c .before .before .if2 .taken)) (c .scan-from2 .ensures)
-
-to-requires-6 : tie.Need-to-requires-6
-to-requires-6 c κs = search needs
-
-enum-told-9 : tie.Need-enum-told-9
-enum-told-9 c = search needs
-
-kept-requires-3 : tie.Need-kept-requires-3
-kept-requires-3 c κs = search needs
 
 returns-3 : tie.Need-returns-3
 returns-3 c = rw (c .before .enum-told .given .1) (c .kept .ensures)
@@ -111,31 +42,31 @@ pub fast-next-spec : {M : Type 1} → statement M
 fast-next-spec =
     tie.close
     (tie.spec
-    enum-told
-    kept-requires
-    enum-told-2
-    to-requires
+    (λ c. search needs)
+    (λ c κs. search needs)
+    (λ c. search needs)
+    (λ c κs. search needs)
     returns
-    scan-from-requires
-    enum-told-3
-    to-requires-2
-    enum-told-4
-    to-requires-3
-    until-requires
-    enum-told-5
-    to-requires-4
-    decides-requires
-    enum-told-6
-    kept-requires-2
-    enum-told-7
-    to-requires-5
-    enum-told-8
-    add-scan-from
-    scan-from-requires-2
+    (λ c κs. search needs)
+    (λ c. search needs)
+    (λ c κs. search needs)
+    (λ c. search needs)
+    (λ c κs. search needs)
+    (λ c κs. search needs)
+    (λ c. search needs)
+    (λ c κs. search needs)
+    (λ c κs. search needs)
+    (λ c. search needs)
+    (λ c κs. search needs)
+    (λ c. search needs)
+    (λ c κs. search needs)
+    (λ c. search needs)
+    (λ c. search needs)
+    (λ c κs. search needs)
     returns-2
-    to-requires-6
-    enum-told-9
-    kept-requires-3
+    (λ c κs. search needs)
+    (λ c. search needs)
+    (λ c κs. search needs)
     returns-3
     returns-4
     returns-5

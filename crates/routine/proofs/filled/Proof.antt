@@ -6,17 +6,11 @@ use Prim.Native.Nat.{ℕ, _%_}
 use mathlib.Core.Path.{sym, ap, _∙_}
 use native.Mathlib.Nat.{mod-eq-of-lt, mod-self}
 
-add-next : tie.Need-add-next
-add-next c = search needs
-
 returns : tie.Need-returns
 returns c = let a = c .before .before .before .args in sym (slots-filled (a .shape) (a .x) ∙ mod-eq-of-lt (c .if1 .taken))
 
 returns-2 : tie.Need-returns-2
 returns-2 c = let a = c .before .before .before .before .before .args in sym (slots-filled (a .shape) (a .x) ∙ ap (λ (n : ℕ). n % a .shape .size) (c .if2 .taken) ∙ mod-self (a .shape .size))
-
-rem-result : tie.Need-rem-result
-rem-result c = search needs
 
 returns-3 : tie.Need-returns-3
 returns-3 c = let a = c .before .before .before .before .before .before .args in sym (slots-filled (a .shape) (a .x))
@@ -25,8 +19,8 @@ pub filled-spec : {M : Type 1} → statement M
 filled-spec =
     tie.close
     (tie.spec
-    add-next
+    (λ c. search needs)
     returns
     returns-2
-    rem-result
+    (λ c. search needs)
     returns-3)

@@ -4,40 +4,27 @@ use mathlib.Core.Path.{sym, _∙_}
 use borrow.Author.Needs.{needs}
 use Rattle.routine.proofs.judge.Statement.{statement}
 use Rattle.routine.proofs.judge.Tie as tie
-use Rattle.routine.proofs.judge.Reads as reads
-use Rattle.routine.proofs.judge.Lts as lts
-use Rattle.routine.proofs.is_decided.Reads as is-decided-reads
 
--- src/routine.rt:297:9
 returns : tie.Need-returns
 unfolding judge
 returns c = rw (lt-ltb _ _ (c .if1 .taken))
 
--- src/routine.rt:300:9
 returns-2 : tie.Need-returns-2
 unfolding judge
 returns-2 c = rw (le-ltb _ _ (c .before .if1 .left), c .if2 .taken)
 
--- src/routine.rt:303:9
 returns-3 : tie.Need-returns-3
 unfolding judge
 returns-3 c = rw (le-ltb _ _ (c .before .before .before .if1 .left), c .before .before .if2 .left, ne-eqb _ _ (c .if3 .taken))
 
--- src/routine.rt:307:8
-is-decided-requires : tie.Need-is-decided-requires
-is-decided-requires c κs = search needs
-
--- src/routine.rt:308:9
 returns-4 : tie.Need-returns-4
 unfolding judge
 returns-4 c = rw (le-ltb _ _ (c .before .before .before .before .before .before .if1 .left), c .before .before .before .before .before .if2 .left, eq-eqb _ _ (c .before .before .before .if3 .left), sym (c .before .is-decided .ensures) ∙ c .if4 .taken)
 
--- src/routine.rt:311:9
 returns-5 : tie.Need-returns-5
 unfolding judge
 returns-5 c = rw (le-ltb _ _ (c .before .before .before .before .before .before .before .before .before .if1 .left), c .before .before .before .before .before .before .before .before .if2 .left, eq-eqb _ _ (c .before .before .before .before .before .before .if3 .left), sym (c .before .before .before .before .is-decided .ensures) ∙ c .before .before .before .if4 .left, lt-ltb _ _ (c .if5 .taken))
 
--- src/routine.rt:293:1
 returns-6 : tie.Need-returns-6
 unfolding judge
 returns-6 c = rw (le-ltb _ _ (c .before .before .before .before .before .before .before .before .before .if1 .left), c .before .before .before .before .before .before .before .before .if2 .left, eq-eqb _ _ (c .before .before .before .before .before .before .if3 .left), sym (c .before .before .before .before .is-decided .ensures) ∙ c .before .before .before .if4 .left, le-ltb _ _ (c .if5 .left))
@@ -45,4 +32,11 @@ returns-6 c = rw (le-ltb _ _ (c .before .before .before .before .before .before 
 pub judge-spec : {M : Type 1} → statement M
 judge-spec =
     tie.close
-    (tie.spec returns returns-2 returns-3 is-decided-requires returns-4 returns-5 returns-6)
+    (tie.spec
+    returns
+    returns-2
+    returns-3
+    (λ c κs. search needs)
+    returns-4
+    returns-5
+    returns-6)

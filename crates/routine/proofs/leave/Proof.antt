@@ -2,10 +2,7 @@ use Rattle.routine.proofs.SlotLaws.{slots-leave}
 use mathlib.Core.Path.{sym}
 use Rattle.routine.proofs.leave.Statement.{statement}
 use Rattle.routine.proofs.leave.Tie as tie
-use Rattle.routine.proofs.leave.Reads as reads
-use Rattle.routine.proofs.leave.Lts as lts
 
--- src/routine.rt:96:1
 returns : tie.Need-returns
 returns c = let a = c .args in sym (slots-leave (a .shape) (a .x))
 

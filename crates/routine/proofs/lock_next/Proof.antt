@@ -5,98 +5,14 @@ use borrow.Author.Needs.{needs}
 use Rattle.routine.proofs.lock_next.Statement.{statement}
 use Rattle.routine.proofs.lock_next.Tie as tie
 
-enum-told : tie.Need-enum-told
-enum-told c = search needs
-
-leave-requires : tie.Need-leave-requires
-leave-requires c κs = search needs
-
-to-requires : tie.Need-to-requires
-to-requires c κs = search needs
-
-on-requires : tie.Need-on-requires
-on-requires c κs = search needs
-
-enum-told-2 : tie.Need-enum-told-2
-enum-told-2 c = search needs
-
-to-requires-2 : tie.Need-to-requires-2
-to-requires-2 c κs = search needs
-
 returns : tie.Need-returns
 returns c = rw (c .before .before .before .enum-told2 .given .1, eq-eqb _ _ (c .before .if1 .taken)) (c .to2 .ensures)
-
-filled-requires : tie.Need-filled-requires
-filled-requires c κs = search needs
-
-to-requires-3 : tie.Need-to-requires-3
-to-requires-3 c κs = search needs
-
-on-requires-2 : tie.Need-on-requires-2
-on-requires-2 c κs = search needs
-
-enum-told-3 : tie.Need-enum-told-3
-enum-told-3 c = search needs
-
-to-requires-4 : tie.Need-to-requires-4
-to-requires-4 c κs = search needs
 
 returns-2 : tie.Need-returns-2
 returns-2 c = rw (c .before .before .enum-told3 .given .1, c .before .if2 .taken) (c .to4 .ensures)
 
-to-requires-5 : tie.Need-to-requires-5
-to-requires-5 c κs = search needs
-
-enum-told-4 : tie.Need-enum-told-4
-enum-told-4 c = search needs
-
-to-requires-6 : tie.Need-to-requires-6
-to-requires-6 c κs = search needs
-
-until-requires : tie.Need-until-requires
-until-requires c κs = search needs
-
-enum-told-5 : tie.Need-enum-told-5
-enum-told-5 c = search needs
-
-to-requires-7 : tie.Need-to-requires-7
-to-requires-7 c κs = search needs
-
 returns-3 : tie.Need-returns-3
 returns-3 c = rw (c .before .before .before .before .enum-told5 .given .1, eq-eqb _ _ (c .before .if3 .taken)) (c .to7 .ensures)
-
-lost-requires : tie.Need-lost-requires
-lost-requires c κs = search needs
-
-to-requires-8 : tie.Need-to-requires-8
-to-requires-8 c κs = search needs
-
-on-requires-3 : tie.Need-on-requires-3
-on-requires-3 c κs = search needs
-
-enum-told-6 : tie.Need-enum-told-6
-enum-told-6 c = search needs
-
-to-requires-9 : tie.Need-to-requires-9
-to-requires-9 c κs = search needs
-
-enum-told-7 : tie.Need-enum-told-7
-enum-told-7 c = search needs
-
-kept-requires : tie.Need-kept-requires
-kept-requires c κs = search needs
-
-enum-told-8 : tie.Need-enum-told-8
-enum-told-8 c = search needs
-
-kept-requires-2 : tie.Need-kept-requires-2
-kept-requires-2 c κs = search needs
-
-enum-told-9 : tie.Need-enum-told-9
-enum-told-9 c = search needs
-
-kept-requires-3 : tie.Need-kept-requires-3
-kept-requires-3 c κs = search needs
 
 returns-4 : tie.Need-returns-4
 returns-4 c = rw (c .before .before .before .enum-told .given .1) (c .on .ensures ∙ ap₂ on (c .before .before .leave .ensures) (c .before .to .ensures))
@@ -129,37 +45,37 @@ pub lock-next-spec : {M : Type 1} → statement M
 lock-next-spec =
     tie.close
     (tie.spec
-    enum-told
-    leave-requires
-    to-requires
-    on-requires
-    enum-told-2
-    to-requires-2
+    (λ c. search needs)
+    (λ c κs. search needs)
+    (λ c κs. search needs)
+    (λ c κs. search needs)
+    (λ c. search needs)
+    (λ c κs. search needs)
     returns
-    filled-requires
-    to-requires-3
-    on-requires-2
-    enum-told-3
-    to-requires-4
+    (λ c κs. search needs)
+    (λ c κs. search needs)
+    (λ c κs. search needs)
+    (λ c. search needs)
+    (λ c κs. search needs)
     returns-2
-    to-requires-5
-    enum-told-4
-    to-requires-6
-    until-requires
-    enum-told-5
-    to-requires-7
+    (λ c κs. search needs)
+    (λ c. search needs)
+    (λ c κs. search needs)
+    (λ c κs. search needs)
+    (λ c. search needs)
+    (λ c κs. search needs)
     returns-3
-    lost-requires
-    to-requires-8
-    on-requires-3
-    enum-told-6
-    to-requires-9
-    enum-told-7
-    kept-requires
-    enum-told-8
-    kept-requires-2
-    enum-told-9
-    kept-requires-3
+    (λ c κs. search needs)
+    (λ c κs. search needs)
+    (λ c κs. search needs)
+    (λ c. search needs)
+    (λ c κs. search needs)
+    (λ c. search needs)
+    (λ c κs. search needs)
+    (λ c. search needs)
+    (λ c κs. search needs)
+    (λ c. search needs)
+    (λ c κs. search needs)
     returns-4
     returns-5
     returns-6

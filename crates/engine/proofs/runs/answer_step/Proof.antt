@@ -11,9 +11,6 @@ returns : tie.Need-returns
 unfolding stepAnswer
 returns c = rw (ne-eqb _ _ (c .if1 .taken))
 
-ask-requires : tie.Need-ask-requires
-ask-requires c κs = search needs
-
 answer-requires : tie.Need-answer-requires
 answer-requires c κs =
     let pre = c .before .before .before .before .before .before .before .before .before .pre in
@@ -25,10 +22,4 @@ returns-2 c =
     answers-move (a .shape) _ _ (a .r) (a .step) (eq-eqb _ _ (c .before .before .before .before .before .before .before .before .if1 .left)) (c .before .before .before .before .before .ask .ensures) (c .answer .ensures)
 
 pub answer-step-spec : {M : Type 1} → statement M
-answer-step-spec =
-    tie.close
-    (tie.spec
-    returns
-    ask-requires
-    answer-requires
-    returns-2)
+answer-step-spec = tie.close (tie.spec returns (λ c κs. search needs) answer-requires returns-2)

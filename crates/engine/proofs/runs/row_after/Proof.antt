@@ -4,15 +4,9 @@ use Rattle.engine.specs.Stepped.{stepRow}
 use Rattle.engine.proofs.runs.row_after.Statement.{statement}
 use Rattle.engine.proofs.runs.row_after.Tie as tie
 
-crash-requires : tie.Need-crash-requires
-crash-requires c κs = search needs
-
 returns : tie.Need-returns
 unfolding stepRow
 returns c = rw (ne-eqb _ _ (c .before .if1 .taken)) (c .crash .ensures)
-
-take-requires : tie.Need-take-requires
-take-requires c κs = search needs
 
 returns-2 : tie.Need-returns-2
 unfolding stepRow
@@ -22,7 +16,7 @@ pub row-after-spec : {M : Type 1} → statement M
 row-after-spec =
     tie.close
     (tie.spec
-    crash-requires
+    (λ c κs. search needs)
     returns
-    take-requires
+    (λ c κs. search needs)
     returns-2)

@@ -6,18 +6,17 @@ use Rattle.model.specs.Report.{lines}
 use Rattle.model.specs.Run.{rowOf, fresh}
 use Rattle.model.specs.Routine.{routineOf}
 use Rattle.model.specs.Bounds.{Room}
-use Rattle.model.specs.declared.State.{State}
 use Rattle.trace.specs.Step.{stepRead}
 use Rattle.bank.specs.Registers.{freshBank}
 use Rattle.terms.proofs.Parts.{part-to-end}
 use Rattle.terms.specs.Overlay.{overlay}
-use lib.ListN.{length, drop, replicate, length-set}
+use lib.ListN.{length, drop, replicate}
 use denote.Ref.{now}
 use borrow.Author.Needs.{needs}
 use native.Mathlib.Omega.{arith}
-use mathlib.Core.Bool.{Bool, false}
-use mathlib.Core.Path.{_≡_, refl, sym, ap, subst, _∙_}
-use Prim.Native.Nat.{ℕ, _≤_, _+_, _*_, _-_}
+use mathlib.Core.Bool.{false}
+use mathlib.Core.Path.{_≡_, refl, sym, ap, _∙_}
+use Prim.Native.Nat.{_≤_, _+_, _-_}
 use Rattle.engine.proofs.runs.run_steps.Statement.{statement}
 use Rattle.engine.proofs.runs.run_steps.Tie as tie
 
@@ -64,24 +63,9 @@ room c =
     let pre = m .before .before .before .before .before .before .before .pre in
     roomy _ _ _ _ _ _ (here (m .before .before .before)) (m .before .before .loop-test .taken) (m .read-step-of .result) (found m) (c .if1 .left) (pre .0) (pre .1 .0) (pre .1 .1 .0)
 
-start-rows-requires : tie.Need-start-rows-requires Inv-loop μ-loop Inv-loop2 μ-loop2
-start-rows-requires c κs = search needs
-
 loop-holds : tie.Need-loop-holds Inv-loop μ-loop Inv-loop2 μ-loop2
 loop-holds c = let a = c .before .before .before .args in
     begins _ _ _ (ap length (c .start-rows .ensures) ∙ length-startRows (a .shape) 0 (a .starts) ∙ c .before .before .before .pre .1 .0 .long)
-
-sub-read-step-of : tie.Need-sub-read-step-of Inv-loop μ-loop Inv-loop2 μ-loop2
-sub-read-step-of c = search needs
-
-part-read-step-of-start : tie.Need-part-read-step-of-start Inv-loop μ-loop Inv-loop2 μ-loop2
-part-read-step-of-start c = search needs
-
-part-read-step-of-end : tie.Need-part-read-step-of-end Inv-loop μ-loop Inv-loop2 μ-loop2
-part-read-step-of-end c = search needs
-
-read-step-of-requires : tie.Need-read-step-of-requires Inv-loop μ-loop Inv-loop2 μ-loop2
-read-step-of-requires c κs = search needs
 
 add-k : tie.Need-add-k Inv-loop μ-loop Inv-loop2 μ-loop2
 add-k c = omega (arith, c .before .before .before .loop .inv .here, c .before .before .before .before .before .before .before .pre .1 .1 .0)
@@ -93,17 +77,8 @@ returns c = let m = c .before .before in
 sub-j : tie.Need-sub-j Inv-loop μ-loop Inv-loop2 μ-loop2
 sub-j c = omega (arith, fit (c .before .before))
 
-cast-j : tie.Need-cast-j Inv-loop μ-loop Inv-loop2 μ-loop2
-cast-j c = search needs
-
-mul-r : tie.Need-mul-r Inv-loop μ-loop Inv-loop2 μ-loop2
-mul-r c = search needs
-
 array-copy-out-r : tie.Need-array-copy-out-r Inv-loop μ-loop Inv-loop2 μ-loop2
 array-copy-out-r c = omega (arith, fit (c .before .before), c .before .before .before .before .before .before .before .loop .inv .long)
-
-judge-requires : tie.Need-judge-requires Inv-loop μ-loop Inv-loop2 μ-loop2
-judge-requires c κs = search needs
 
 returns-2 : tie.Need-returns-2 Inv-loop μ-loop Inv-loop2 μ-loop2
 returns-2 c =
@@ -113,17 +88,11 @@ returns-2 c =
 answer-step-requires : tie.Need-answer-step-requires Inv-loop μ-loop Inv-loop2 μ-loop2
 answer-step-requires c κs = (room (c .before .before .before .before .before .before .before .before .before), fit (c .before .before .before .before .before .before .before .before .before))
 
-mul-row : tie.Need-mul-row Inv-loop μ-loop Inv-loop2 μ-loop2
-mul-row c = search needs
-
 array-copy-out-row : tie.Need-array-copy-out-row Inv-loop μ-loop Inv-loop2 μ-loop2
 array-copy-out-row c = omega (arith, fit (c .before .before .before .before .before .before .before .before .before .before), c .before .before .before .before .before .before .before .before .before .before .before .before .before .before .before .loop .inv .long)
 
 row-after-requires : tie.Need-row-after-requires Inv-loop μ-loop Inv-loop2 μ-loop2
 row-after-requires c κs = (c .before .before .before .before .before .before .before .before .before .before .before .before .before .before .before .before .before .before .before .before .pre .0, (room (c .before .before .before .before .before .before .before .before .before .before .before), fit (c .before .before .before .before .before .before .before .before .before .before .before)))
-
-mul-rows : tie.Need-mul-rows Inv-loop μ-loop Inv-loop2 μ-loop2
-mul-rows c = search needs
 
 array-set-from-rows : tie.Need-array-set-from-rows Inv-loop μ-loop Inv-loop2 μ-loop2
 array-set-from-rows c = omega (arith, fit (c .before .before .before .before .before .before .before .before .before .before .before .before), c .before .before .before .before .before .before .before .before .before .before .before .before .before .before .before .before .before .loop .inv .long)
@@ -141,30 +110,9 @@ loop-again c =
     begun (sym (freshly (l .before)))
     (lands _ _ _ _ _ _ (here l) (m .before .before .loop-test .taken) (m .read-step-of .result) (found m) (c .before .before .before .before .before .before .before .before .before .before .before .before .if1 .left) (c .before .before .before .before .before .before .before .before .judge .ensures) (c .before .before .before .before .before .before .before .if2 .left) (c .before .before .answer-step .ensures) (c .row-after .ensures))
 
-cast-n : tie.Need-cast-n Inv-loop μ-loop Inv-loop2 μ-loop2
-cast-n c = search needs
-
 loop2-holds : tie.Need-loop2-holds Inv-loop μ-loop Inv-loop2 μ-loop2
 unfolding lines
 loop2-holds c = (search needs, refl, refl)
-
-mul-r-2 : tie.Need-mul-r-2 Inv-loop μ-loop Inv-loop2 μ-loop2
-mul-r-2 c = search needs
-
-array-copy-out-r-2 : tie.Need-array-copy-out-r-2 Inv-loop μ-loop Inv-loop2 μ-loop2
-array-copy-out-r-2 c = search needs
-
-mul-write-line : tie.Need-mul-write-line Inv-loop μ-loop Inv-loop2 μ-loop2
-mul-write-line c = search needs
-
-write-line-requires : tie.Need-write-line-requires Inv-loop μ-loop Inv-loop2 μ-loop2
-write-line-requires c κs = search needs
-
-add-j : tie.Need-add-j Inv-loop μ-loop Inv-loop2 μ-loop2
-add-j c = search needs
-
-loop2-less : tie.Need-loop2-less Inv-loop μ-loop Inv-loop2 μ-loop2
-loop2-less c = search needs
 
 loop2-again : tie.Need-loop2-again Inv-loop μ-loop Inv-loop2 μ-loop2
 loop2-again c =
@@ -173,9 +121,6 @@ loop2-again c =
       search needs,
       c .before .before .write-line .ensures ∙ lines-more (routineOf (c .before .before .before .before .before .before .before .before .before .before .before .before .before .args .shape .kind)) (c .before .before .before .before .before .before .before .before .before .loop .rows) (l .loop2 .j) (now (c .before .before .before .before .before .before .before .before .before .before .before .before .before .args .report)) (l .loop2 .report) (l .loop2 .inv .2),
     )
-
-same-length : tie.Need-same-length Inv-loop μ-loop Inv-loop2 μ-loop2
-same-length c = search needs
 
 returns-3 : tie.Need-returns-3 Inv-loop μ-loop Inv-loop2 μ-loop2
 returns-3 c =
@@ -191,37 +136,37 @@ run-steps-spec =
     μ-loop
     Inv-loop2
     μ-loop2
-    start-rows-requires
+    (λ c κs. search needs)
     loop-holds
-    sub-read-step-of
-    part-read-step-of-start
-    part-read-step-of-end
-    read-step-of-requires
+    (λ c. search needs)
+    (λ c. search needs)
+    (λ c. search needs)
+    (λ c κs. search needs)
     add-k
     returns
     sub-j
-    cast-j
-    mul-r
+    (λ c. search needs)
+    (λ c. search needs)
     array-copy-out-r
-    judge-requires
+    (λ c κs. search needs)
     returns-2
     answer-step-requires
-    mul-row
+    (λ c. search needs)
     array-copy-out-row
     row-after-requires
-    mul-rows
+    (λ c. search needs)
     array-set-from-rows
     add-at
     loop-less
     loop-again
-    cast-n
+    (λ c. search needs)
     loop2-holds
-    mul-r-2
-    array-copy-out-r-2
-    mul-write-line
-    write-line-requires
-    add-j
-    loop2-less
+    (λ c. search needs)
+    (λ c. search needs)
+    (λ c. search needs)
+    (λ c κs. search needs)
+    (λ c. search needs)
+    (λ c. search needs)
     loop2-again
-    same-length
+    (λ c. search needs)
     returns-3)
