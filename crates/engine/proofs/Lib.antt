@@ -1,3 +1,3 @@
-pub mod RoutineLaws
 pub mod StepLaws
 pub mod EntryLaws
+pub mod Settled

@@ -12,7 +12,8 @@ use Rattle.terms.specs.Numbers.{indexOf}
 use Rattle.terms.specs.Overlay.{overlay}
 use Rattle.terms.proofs.RefusalLaws.{if-accepted}
 use Rattle.bank.specs.declared.Bank.{Bank}
-use Rattle.bank.specs.Registers.{bankOf, freshBank}
+use Rattle.bank.specs.Registers.{bankOf}
+use Rattle.bank.specs.Granted.{Seen, Stored}
 use Rattle.trace.specs.declared.Step.{Step}
 use Rattle.trace.specs.declared.StepRead.{StepRead}
 use Rattle.trace.specs.Step.{stepRefusal, stepFields, stepRead}
@@ -31,40 +32,43 @@ use Rattle.model.specs.Report.{lines, outcomeOf, reportOf}
 use Rattle.model.proofs.RunLaws.{recordAt, judgeAt, reach-start, refused-by-bytes, refused-by-judge, accepted-by-both, reach-stays, records-end, records-past}
 use Rattle.model.proofs.Rooms.{reach-room}
 use Rattle.model.proofs.ReportLaws.{ranBy, refusedRun, ran-stopped}
-use Rattle.engine.specs.Stepped.{Numbered, Due, sharedOf, Stepped, moved, stepped, ranFrom}
+use Rattle.engine.specs.Stepped.{Due, sharedOf, stepAnswer, stepRow, ranFrom}
 
 -- ONE STEP
 
-module _ (u : Shape) (b : Bank) (m : Shared) (r : Row) (k : Step) where
-  pub step-moves : {q : Ask} {a : Answered} {x : Row} → isMove k ≡ true
-      → q ≡ askAt (r .local .place) (u .delta) r
-      → a ≡ answerOf b m (k .process) (k .tick) q
-      → x ≡ rowAfter u (r .local .place) (wakeAt (u .delta) (k .tick)) r (a .reply)
-      → record { row = x; bank = a .bank; shared = a .shared } ≡ stepped u b m r k
-  unfolding stepped
-  step-moves h e f g = rw (h, g, f, e)
+-- a read and a write of the bank, as memory's answer
+abbrev pub answeredRead : Shared → Seen → Answered
+answeredRead m x = record { reply = record { value = x .value; late = false }; bank = x .bank; shared = m }
 
-  pub step-stops : {x : Row} → isMove k ≡ false → x ≡ crash r → record { row = x; bank = b; shared = m } ≡ stepped u b m r k
-  unfolding stepped
-  step-stops h e = rw (h, e)
+abbrev pub answeredWrite : Shared → Stored → Answered
+answeredWrite m x = record { reply = record { value = 0; late = x .late }; bank = x .bank; shared = m }
 
--- a step's row put back
-abbrev pub back : State → Step → Stepped → State
-back s k x = record { rows = set (s .rows) (indexOf (k .process)) (x .row); bank = x .bank; shared = x .shared; last = k .tick }
+pub answers-move : (u : Shape) (b : Bank) (m : Shared) (r : Row) (k : Step) {q : Ask} {a : Answered} → isMove k ≡ true
+    → q ≡ askAt (r .local .place) (u .delta) r
+    → a ≡ answerOf b m (k .process) (k .tick) q
+    → a ≡ stepAnswer u b m r k
+unfolding stepAnswer
+answers-move u b m r k h e f = f ∙ ap (answerOf b m (k .process) (k .tick)) (e ∙ sym (ap (λ (t : Bool). cond t (askAt (r .local .place) (u .delta) r) Ask.Nothing) h))
+
+-- a step's row put back, with memory as it answered
+abbrev pub back : State → Step → Answered → Row → State
+back s k a x = record { rows = set (s .rows) (indexOf (k .process)) x; bank = a .bank; shared = a .shared; last = k .tick }
 
 -- is the state after it
-pub stepped-after : (u : Shape) (s : State) (k : Step) {x : Stepped} → x ≡ stepped u (s .bank) (s .shared) (rowOf s (k .process)) k
-    → back s k x ≡ after u s k
-unfolding stepped after moveAt stop
-stepped-after u s k e = ap (back s k) e ∙ by (isMove k)
+pub stepped-after : (u : Shape) (s : State) (k : Step) {a : Answered} {x : Row} → a ≡ stepAnswer u (s .bank) (s .shared) (rowOf s (k .process)) k
+    → x ≡ stepRow u (rowOf s (k .process)) k (a .reply) → back s k a x ≡ after u s k
+unfolding stepAnswer stepRow after moveAt stop
+stepped-after u s k e f = by (isMove k) e f
   where
     r : Row
     r = rowOf s (k .process)
 
-    by : (b : Bool) → back s k (cond b (moved u (r .local .place) r (k .tick) (answerOf (s .bank) (s .shared) (k .process) (k .tick) (askAt (r .local .place) (u .delta) r))) (record { row = crash r; bank = s .bank; shared = s .shared }))
-        ≡ cond b (move u s (k .process) (k .tick)) (stop s (k .process) (k .tick))
-    by true = refl
-    by false = refl
+    by : (b : Bool) {a : Answered} {x : Row}
+        → a ≡ answerOf (s .bank) (s .shared) (k .process) (k .tick) (cond b (askAt (r .local .place) (u .delta) r) Ask.Nothing)
+        → x ≡ cond b (rowAfter u (r .local .place) (wakeAt (u .delta) (k .tick)) r (a .reply)) (crash r)
+        → back s k a x ≡ cond b (move u s (k .process) (k .tick)) (stop s (k .process) (k .tick))
+    by true e f = rw (f, e)
+    by false e f = rw (f, e)
 
 -- THE LOOP
 
@@ -141,17 +145,18 @@ module _ (u : Shape) (xs rest : List ℕ) (s : State) (at k : ℕ) (g : Going u 
         ended (refused-by-judge u (fresh u xs) rest k (g .so-far) accepted (λ z. h (e ∙ judged ∙ z)) ∙ ap (λ (x : ℕ). stopped x (k + 1)) (sym (e ∙ judged)))
 
     -- accepted
-    pub lands : {y : ℕ} {x : Stepped} → y ≡ judge (rowOf s (read .step .process)) (s .last) (read .step) → y ≡ 0
-        → x ≡ stepped u (s .bank) (s .shared) (rowOf s (read .step .process)) (read .step)
-        → Going u (fresh u xs) rest (back s (read .step) x) (at + 8) (k + 1)
-    lands e z p =
+    pub lands : {y : ℕ} {a : Answered} {x : Row} → y ≡ judge (rowOf s (read .step .process)) (s .last) (read .step) → y ≡ 0
+        → a ≡ stepAnswer u (s .bank) (s .shared) (rowOf s (read .step .process)) (read .step)
+        → x ≡ stepRow u (rowOf s (read .step .process)) (read .step) (a .reply)
+        → Going u (fresh u xs) rest (back s (read .step) a x) (at + 8) (k + 1)
+    lands e z p q =
         record {
           here = omega (arith, g .here);
           inside = whole;
           long = simp length-set (g .long);
           so-far =
               accepted-by-both u (fresh u xs) rest k (g .so-far) accepted (sym judged ∙ sym e ∙ z)
-              ∙ ap going (sym (stepped-after u s (read .step) p ∙ ap (after u s) fields));
+              ∙ ap going (sym (stepped-after u s (read .step) p q ∙ ap (after u s) fields));
         }
 
 -- at the end of the bytes, with the lines written

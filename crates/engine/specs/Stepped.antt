@@ -1,4 +1,4 @@
--- One accepted step as the code takes it: the row of its process out, and back with memory as the step leaves it.
+-- One accepted step as the code takes it: memory answers, and then the row of its process changes. What the code asks of its numbers.
 use Prim.Native.Nat.{ℕ, _≤_}
 use mathlib.Core.Bool.{Bool, cond}
 use mathlib.Core.List.{List}
@@ -6,9 +6,10 @@ use Rattle.terms.specs.declared.ProcessNumber.{ProcessNumber}
 use Rattle.terms.specs.Limits.{mostProcesses, topTick}
 use Rattle.bank.specs.declared.Bank.{Bank}
 use Rattle.trace.specs.declared.Step.{Step}
-use Rattle.model.specs.declared.Place.{Place}
 use Rattle.model.specs.declared.Shape.{Shape}
 use Rattle.model.specs.declared.Row.{Row}
+use Rattle.model.specs.declared.Ask.{Ask}
+use Rattle.model.specs.declared.Reply.{Reply}
 use Rattle.model.specs.declared.Shared.{Shared}
 use Rattle.model.specs.Time.{wakeAt}
 use Rattle.model.specs.Routine.{askAt, rowAfter, crash}
@@ -30,20 +31,13 @@ pub record Due (k : Step) : Type 0 where
 abbrev pub sharedOf : List Bool → Shared
 sharedOf flags = record { flags = flags }
 
-pub record Stepped : Type 0 where
-  pub row : Row
-  pub bank : Bank
-  pub shared : Shared
+-- what memory answers to an accepted step of the process with row r: to a move the operation at its place, to a crash none
+unfoldable pub stepAnswer : Shape → Bank → Shared → Row → Step → Answered
+stepAnswer u b m r k = answerOf b m (k .process) (k .tick) (cond (isMove k) (askAt (r .local .place) (u .delta) r) Ask.Nothing)
 
--- a move at place p, with what memory answered
-abbrev pub moved : Shape → Place → Row → ℕ → Answered → Stepped
-moved u p r t a = record { row = rowAfter u p (wakeAt (u .delta) t) r (a .reply); bank = a .bank; shared = a .shared }
-
-unfoldable pub stepped : Shape → Bank → Shared → Row → Step → Stepped
-stepped u b m r k =
-    cond (isMove k)
-    (moved u (r .local .place) r (k .tick) (answerOf b m (k .process) (k .tick) (askAt (r .local .place) (u .delta) r)))
-    (record { row = crash r; bank = b; shared = m })
+-- and its row afterwards
+unfoldable pub stepRow : Shape → Row → Step → Reply → Row
+stepRow u r k a = cond (isMove k) (rowAfter u (r .local .place) (wakeAt (u .delta) (k .tick)) r a) (crash r)
 
 -- what the records of `rest` return and leave, from the fresh state on
 abbrev pub ranFrom : Shape → List ℕ → List ℕ → List ℕ → Ran

@@ -1,5 +1,4 @@
-// The engine: what one process does, one step of the bench, the run over a trace's bytes, the report.
-pub mod memory;
-pub mod report;
-pub mod routine;
+// The engine: memory's side of a move, a run over a trace's bytes, the report.
+mod memory;
+mod report;
 pub mod runs;

@@ -7,13 +7,13 @@ ghost use Rattle.bank.specs.Registers.{bankOf};
 ghost use Rattle.model.specs.Bounds.{Sound, Starts, Room};
 ghost use Rattle.model.specs.Run.{lineWidth, shapeOf, kindOf};
 ghost use Rattle.model.specs.Report.{ranOf};
-ghost use Rattle.engine.specs.Stepped.{Due, sharedOf, stepped, ranFrom};
+ghost use Rattle.engine.specs.Stepped.{Due, sharedOf, stepAnswer, stepRow, ranFrom};
 use crate::memory;
 use crate::report;
-use crate::routine;
 use bank::Bank;
 use model::Kind;
 use model::Outcome;
+use model::Reply;
 use model::Row;
 use model::Shape;
 use model::State;
@@ -23,8 +23,8 @@ use trace::Step;
 use trace::setups;
 use trace::steps;
 
-// One accepted step of the process with row r: its row afterwards, and memory as the step leaves it.
-fn step_row(
+// What memory answers to an accepted step of the process with row r, and what it then holds.
+fn answer_step(
     shape: Shape,
     r: Row,
     step: Step,
@@ -32,23 +32,39 @@ fn step_row(
     deadlines: &mut [u32; 256],
     last: &mut u32,
     flags: &mut [bool; 9],
-) -> Row
-    requires { ⌜ Sound shape ⌝ }
+) -> Reply
     requires { ⌜ Room shape r ⌝ }
     requires { ⌜ Due step ⌝ }
-    ensures { λ x. ⌜ record { row = x; bank = bankOf (now (values .exit)) (now (deadlines .exit)) (now (last .exit)); shared = sharedOf (now (flags .exit)) }
-        ≡ stepped shape (bankOf (now (values .entry)) (now (deadlines .entry)) (now (last .entry))) (sharedOf (now (flags .entry))) r step ⌝ }
+    ensures { λ a. ⌜ record { reply = a; bank = bankOf (now (values .exit)) (now (deadlines .exit)) (now (last .exit)); shared = sharedOf (now (flags .exit)) }
+        ≡ stepAnswer shape (bankOf (now (values .entry)) (now (deadlines .entry)) (now (last .entry))) (sharedOf (now (flags .entry))) r step ⌝ }
 {
     if step.event != 0 {
-        return routine::crash(r);
+        return Reply {
+            value: 0,
+            late: false,
+        };
     }
     let x = r.local;
     let place = x.place;
     let i = step.process;
     let tick = step.tick;
     let q = routine::ask(place, shape.delta, r);
-    let a = memory::answer(values, deadlines, last, flags, i, tick, q);
-    routine::take(shape, place, r, tick, a)
+    memory::answer(values, deadlines, last, flags, i, tick, q)
+}
+
+// The row after an accepted step that memory answered with a.
+fn row_after(shape: Shape, r: Row, step: Step, a: Reply) -> Row
+    requires { ⌜ Sound shape ⌝ }
+    requires { ⌜ Room shape r ⌝ }
+    requires { ⌜ Due step ⌝ }
+    ensures { λ x. ⌜ x ≡ stepRow shape r step a ⌝ }
+{
+    if step.event != 0 {
+        return routine::crash(r);
+    }
+    let x = r.local;
+    let place = x.place;
+    routine::take(shape, place, r, step.tick, a)
 }
 
 // The records of `rest`, from the fresh state on.
@@ -69,7 +85,8 @@ fn run_steps(shape: Shape, starts: [u8; 32], rest: &[u8], report: &mut [u32]) ->
     let mut at: usize = 0;
     let mut k: u32 = 0;
     while at < rest.len() {
-        let read = steps::read_step_of(shape.count, &rest[at..]);
+        let begin = at;
+        let read = steps::read_step_of(shape.count, &rest[begin..]);
         k = k + 1;
         if read.refusal != 0 {
             return Outcome {
@@ -84,7 +101,7 @@ fn run_steps(shape: Shape, starts: [u8; 32], rest: &[u8], report: &mut [u32]) ->
         if no != 0 {
             return Outcome { number: no, at: k };
         }
-        rows[j] = step_row(
+        let a = answer_step(
             shape,
             r,
             step,
@@ -93,6 +110,9 @@ fn run_steps(shape: Shape, starts: [u8; 32], rest: &[u8], report: &mut [u32]) ->
             &mut touched,
             &mut flags,
         );
+        // The row is read again, so that what only TAKE needs of it is not held over the answer.
+        let row = rows[j];
+        rows[j] = row_after(shape, row, step, a);
         last = step.tick;
         at = at + 8;
     }

@@ -1,20 +1,12 @@
 use borrow.Author.Needs.{needs}
 use Rattle.engine.proofs.memory.flag.Statement.{statement}
 use Rattle.engine.proofs.memory.flag.Tie as tie
-use Rattle.engine.proofs.memory.flag.Reads as reads
-use Rattle.engine.proofs.memory.flag.Lts as lts
 
--- src/memory.rt:21:8
-element-copy-out-if1 : tie.Need-element-copy-out-if1
-element-copy-out-if1 c = search needs
-
--- src/memory.rt:22:9
 returns : tie.Need-returns
 returns c = rw (c .if1 .taken)
 
--- src/memory.rt:16:1
 returns-2 : tie.Need-returns-2
 returns-2 c = rw (c .if1 .left)
 
 pub flag-spec : {M : Type 1} → statement M
-flag-spec = tie.close (tie.spec element-copy-out-if1 returns returns-2)
+flag-spec = tie.close (tie.spec (λ c. search needs) returns returns-2)

@@ -1,18 +1,13 @@
 use borrow.Author.Tests.{eq-eqb, ne-eqb}
 use Rattle.engine.proofs.runs.kind_of.Statement.{statement}
 use Rattle.engine.proofs.runs.kind_of.Tie as tie
-use Rattle.engine.proofs.runs.kind_of.Reads as reads
-use Rattle.engine.proofs.runs.kind_of.Lts as lts
 
--- src/runs.rt:105:9
 returns : tie.Need-returns
 returns c = rw (eq-eqb _ _ (c .if1 .taken))
 
--- src/runs.rt:108:9
 returns-2 : tie.Need-returns-2
 returns-2 c = rw (ne-eqb _ _ (c .before .if1 .left), eq-eqb _ _ (c .if2 .taken))
 
--- src/runs.rt:101:1
 returns-3 : tie.Need-returns-3
 returns-3 c = rw (ne-eqb _ _ (c .before .if1 .left), ne-eqb _ _ (c .if2 .left))
 

@@ -6,27 +6,19 @@ use Rattle.model.specs.Report.{lines}
 use Rattle.model.specs.Run.{rowOf, fresh}
 use Rattle.model.specs.Routine.{routineOf}
 use Rattle.model.specs.Bounds.{Room}
-use Rattle.model.specs.declared.State.{State}
 use Rattle.trace.specs.Step.{stepRead}
 use Rattle.bank.specs.Registers.{freshBank}
 use Rattle.terms.proofs.Parts.{part-to-end}
 use Rattle.terms.specs.Overlay.{overlay}
-use lib.ListN.{length, drop, replicate, length-set}
+use lib.ListN.{length, drop, replicate}
 use denote.Ref.{now}
 use borrow.Author.Needs.{needs}
 use native.Mathlib.Omega.{arith}
-use mathlib.Core.Bool.{Bool, false}
-use mathlib.Core.Path.{_≡_, refl, sym, ap, subst, _∙_}
-use Prim.Native.Nat.{ℕ, _≤_, _+_, _*_, _-_}
+use mathlib.Core.Bool.{false}
+use mathlib.Core.Path.{_≡_, refl, sym, ap, _∙_}
+use Prim.Native.Nat.{_≤_, _+_, _-_}
 use Rattle.engine.proofs.runs.run_steps.Statement.{statement}
 use Rattle.engine.proofs.runs.run_steps.Tie as tie
-use Rattle.engine.proofs.runs.run_steps.Reads as reads
-use Rattle.engine.proofs.runs.run_steps.Lts as lts
-use Rattle.engine.proofs.report.write_line.Reads as write-line-reads
-use Rattle.engine.proofs.routine.judge.Reads as judge-reads
-use Rattle.engine.proofs.runs.step_row.Reads as step-row-reads
-use Rattle.model.proofs.State.start_rows.Reads as start-rows-reads
-use Rattle.trace.proofs.steps.read_step_of.Reads as read-step-of-reads
 
 abbrev Inv-loop : tie.InvT-loop
 Inv-loop shape rest report kind rows₀ values₀ deadlines₀ touched₀ flags₀ last₀ at₀ k₀ rows values deadlines touched flags last at k =
@@ -65,136 +57,63 @@ full c =
     let m = c .before .before in
     whole _ _ _ _ _ _ (here (m .before .before .before)) (m .before .before .loop-test .taken) (m .read-step-of .result) (found m) (c .if1 .left)
 
--- src/runs.rt:63:20
-start-rows-requires : tie.Need-start-rows-requires Inv-loop μ-loop Inv-loop2 μ-loop2
-start-rows-requires c κs = search needs
+room : (c : tie.Else1 Inv-loop μ-loop Inv-loop2 μ-loop2) → Room (c .before .before .before .before .before .before .before .before .before .args .shape) (rowOf (stateOf (c .before .before .before .before .before .loop .rows) (c .before .before .before .before .before .loop .values) (c .before .before .before .before .before .loop .deadlines) (c .before .before .before .before .before .loop .touched) (c .before .before .before .before .before .loop .flags) (c .before .before .before .before .before .loop .last)) (c .before .before .read-step-of .result .step .process))
+room c =
+    let m = c .before .before in
+    let pre = m .before .before .before .before .before .before .before .pre in
+    roomy _ _ _ _ _ _ (here (m .before .before .before)) (m .before .before .loop-test .taken) (m .read-step-of .result) (found m) (c .if1 .left) (pre .0) (pre .1 .0) (pre .1 .1 .0)
 
--- src/runs.rt:71:5
 loop-holds : tie.Need-loop-holds Inv-loop μ-loop Inv-loop2 μ-loop2
 loop-holds c = let a = c .before .before .before .args in
     begins _ _ _ (ap length (c .start-rows .ensures) ∙ length-startRows (a .shape) 0 (a .starts) ∙ c .before .before .before .pre .1 .0 .long)
 
--- src/runs.rt:72:53
-sub-read-step-of : tie.Need-sub-read-step-of Inv-loop μ-loop Inv-loop2 μ-loop2
-sub-read-step-of c = search needs
-
--- src/runs.rt:72:53
-part-read-step-of-start : tie.Need-part-read-step-of-start Inv-loop μ-loop Inv-loop2 μ-loop2
-part-read-step-of-start c = search needs
-
--- src/runs.rt:72:53
-part-read-step-of-end : tie.Need-part-read-step-of-end Inv-loop μ-loop Inv-loop2 μ-loop2
-part-read-step-of-end c = search needs
-
--- src/runs.rt:72:13
-read-step-of-requires : tie.Need-read-step-of-requires Inv-loop μ-loop Inv-loop2 μ-loop2
-read-step-of-requires c κs = search needs
-
--- src/runs.rt:73:13
 add-k : tie.Need-add-k Inv-loop μ-loop Inv-loop2 μ-loop2
 add-k c = omega (arith, c .before .before .before .loop .inv .here, c .before .before .before .before .before .before .before .pre .1 .1 .0)
 
--- src/runs.rt:75:13
 returns : tie.Need-returns Inv-loop μ-loop Inv-loop2 μ-loop2
 returns c = let m = c .before .before in
     unread _ _ _ _ _ _ (here (m .before .before .before)) (m .before .before .loop-test .taken) (m .read-step-of .result) (found m) (c .if1 .taken) (now (m .before .before .before .before .before .before .before .args .report))
 
--- src/runs.rt:81:18
 sub-j : tie.Need-sub-j Inv-loop μ-loop Inv-loop2 μ-loop2
 sub-j c = omega (arith, fit (c .before .before))
 
--- src/runs.rt:81:17
-cast-j : tie.Need-cast-j Inv-loop μ-loop Inv-loop2 μ-loop2
-cast-j c = search needs
-
--- src/runs.rt:82:17
-mul-r : tie.Need-mul-r Inv-loop μ-loop Inv-loop2 μ-loop2
-mul-r c = search needs
-
--- src/runs.rt:82:17
 array-copy-out-r : tie.Need-array-copy-out-r Inv-loop μ-loop Inv-loop2 μ-loop2
 array-copy-out-r c = omega (arith, fit (c .before .before), c .before .before .before .before .before .before .before .loop .inv .long)
 
--- src/runs.rt:83:13
-judge-requires : tie.Need-judge-requires Inv-loop μ-loop Inv-loop2 μ-loop2
-judge-requires c κs = search needs
-
--- src/runs.rt:85:13
 returns-2 : tie.Need-returns-2 Inv-loop μ-loop Inv-loop2 μ-loop2
 returns-2 c =
     let m = c .before .before .before .before .before .before .before in
     unfit _ _ _ _ _ _ (here (m .before .before .before)) (m .before .before .loop-test .taken) (m .read-step-of .result) (found m) (c .before .before .before .before .before .if1 .left) _ (c .before .judge .ensures) (c .if2 .taken) (now (m .before .before .before .before .before .before .before .args .report))
 
--- src/runs.rt:87:19
-step-row-requires : tie.Need-step-row-requires Inv-loop μ-loop Inv-loop2 μ-loop2
-step-row-requires c κs =
-    let m = c .before .before .before .before .before .before .before .before .before .before .before in
-    let pre = m .before .before .before .before .before .before .before .pre in (
-      pre .0,
-      (
-        roomy _ _ _ _ _ _ (here (m .before .before .before)) (m .before .before .loop-test .taken) (m .read-step-of .result) (found m) (c .before .before .before .before .before .before .before .before .before .if1 .left) (pre .0) (pre .1 .0) (pre .1 .1 .0),
-        fit (c .before .before .before .before .before .before .before .before .before),
-      ),
-    )
+answer-step-requires : tie.Need-answer-step-requires Inv-loop μ-loop Inv-loop2 μ-loop2
+answer-step-requires c κs = (room (c .before .before .before .before .before .before .before .before .before), fit (c .before .before .before .before .before .before .before .before .before))
 
--- src/runs.rt:87:9
-mul-rows : tie.Need-mul-rows Inv-loop μ-loop Inv-loop2 μ-loop2
-mul-rows c = search needs
+array-copy-out-row : tie.Need-array-copy-out-row Inv-loop μ-loop Inv-loop2 μ-loop2
+array-copy-out-row c = omega (arith, fit (c .before .before .before .before .before .before .before .before .before .before), c .before .before .before .before .before .before .before .before .before .before .before .before .before .before .before .loop .inv .long)
 
--- src/runs.rt:87:9
+row-after-requires : tie.Need-row-after-requires Inv-loop μ-loop Inv-loop2 μ-loop2
+row-after-requires c κs = (c .before .before .before .before .before .before .before .before .before .before .before .before .before .before .before .before .before .before .before .before .pre .0, (room (c .before .before .before .before .before .before .before .before .before .before .before), fit (c .before .before .before .before .before .before .before .before .before .before .before)))
+
 array-set-from-rows : tie.Need-array-set-from-rows Inv-loop μ-loop Inv-loop2 μ-loop2
-array-set-from-rows c = omega (arith, fit (c .before .before .before .before .before .before .before .before .before .before), c .before .before .before .before .before .before .before .before .before .before .before .before .before .before .before .loop .inv .long)
+array-set-from-rows c = omega (arith, fit (c .before .before .before .before .before .before .before .before .before .before .before .before), c .before .before .before .before .before .before .before .before .before .before .before .before .before .before .before .before .before .loop .inv .long)
 
--- src/runs.rt:89:14
 add-at : tie.Need-add-at Inv-loop μ-loop Inv-loop2 μ-loop2
-add-at c = omega (arith, full (c .before .before .before .before .before .before .before .before .before .before), c .before .before .before .before .before .before .before .before .before .before .before .before .before .before .before .before .before .before .before .pre .1 .1 .0)
+add-at c = omega (arith, full (c .before .before .before .before .before .before .before .before .before .before .before .before), c .before .before .before .before .before .before .before .before .before .before .before .before .before .before .before .before .before .before .before .before .before .pre .1 .1 .0)
 
--- src/runs.rt:71:5
 loop-less : tie.Need-loop-less Inv-loop μ-loop Inv-loop2 μ-loop2
-loop-less c = search needs
+loop-less c = omega (arith, c .before .before .before .before .before .before .before .before .before .before .before .before .before .before .before .before .loop-test .taken)
 
--- src/runs.rt:71:5
 loop-again : tie.Need-loop-again Inv-loop μ-loop Inv-loop2 μ-loop2
 loop-again c =
-    let m = c .before .before .before .before .before .before .before .before .before .before .before .before in
+    let m = c .before .before .before .before .before .before .before .before .before .before .before .before .before .before in
     let l = m .before .before .before in
     begun (sym (freshly (l .before)))
-    (lands _ _ _ _ _ _ (here l) (m .before .before .loop-test .taken) (m .read-step-of .result) (found m) (c .before .before .before .before .before .before .before .before .before .before .if1 .left) (c .before .before .before .before .before .before .judge .ensures) (c .before .before .before .before .before .if2 .left) (c .step-row .ensures))
+    (lands _ _ _ _ _ _ (here l) (m .before .before .loop-test .taken) (m .read-step-of .result) (found m) (c .before .before .before .before .before .before .before .before .before .before .before .before .if1 .left) (c .before .before .before .before .before .before .before .before .judge .ensures) (c .before .before .before .before .before .before .before .if2 .left) (c .before .before .answer-step .ensures) (c .row-after .ensures))
 
--- src/runs.rt:91:13
-cast-n : tie.Need-cast-n Inv-loop μ-loop Inv-loop2 μ-loop2
-cast-n c = search needs
-
--- src/runs.rt:93:5
 loop2-holds : tie.Need-loop2-holds Inv-loop μ-loop Inv-loop2 μ-loop2
 unfolding lines
 loop2-holds c = (search needs, refl, refl)
 
--- src/runs.rt:94:17
-mul-r-2 : tie.Need-mul-r-2 Inv-loop μ-loop Inv-loop2 μ-loop2
-mul-r-2 c = search needs
-
--- src/runs.rt:94:17
-array-copy-out-r-2 : tie.Need-array-copy-out-r-2 Inv-loop μ-loop Inv-loop2 μ-loop2
-array-copy-out-r-2 c = search needs
-
--- src/runs.rt:95:37
-mul-write-line : tie.Need-mul-write-line Inv-loop μ-loop Inv-loop2 μ-loop2
-mul-write-line c = search needs
-
--- src/runs.rt:95:9
-write-line-requires : tie.Need-write-line-requires Inv-loop μ-loop Inv-loop2 μ-loop2
-write-line-requires c κs = search needs
-
--- src/runs.rt:96:13
-add-j : tie.Need-add-j Inv-loop μ-loop Inv-loop2 μ-loop2
-add-j c = search needs
-
--- src/runs.rt:93:5
-loop2-less : tie.Need-loop2-less Inv-loop μ-loop Inv-loop2 μ-loop2
-loop2-less c = search needs
-
--- src/runs.rt:93:5
 loop2-again : tie.Need-loop2-again Inv-loop μ-loop Inv-loop2 μ-loop2
 loop2-again c =
     let l = c .before .before .before .before .before .before in (
@@ -203,11 +122,6 @@ loop2-again c =
       c .before .before .write-line .ensures ∙ lines-more (routineOf (c .before .before .before .before .before .before .before .before .before .before .before .before .before .args .shape .kind)) (c .before .before .before .before .before .before .before .before .before .loop .rows) (l .loop2 .j) (now (c .before .before .before .before .before .before .before .before .before .before .before .before .before .args .report)) (l .loop2 .report) (l .loop2 .inv .2),
     )
 
--- src/runs.rt:55:1
-same-length : tie.Need-same-length Inv-loop μ-loop Inv-loop2 μ-loop2
-same-length c = search needs
-
--- src/runs.rt:55:1
 returns-3 : tie.Need-returns-3 Inv-loop μ-loop Inv-loop2 μ-loop2
 returns-3 c =
     let l = c .before .before .before .before in
@@ -222,34 +136,37 @@ run-steps-spec =
     μ-loop
     Inv-loop2
     μ-loop2
-    start-rows-requires
+    (λ c κs. search needs)
     loop-holds
-    sub-read-step-of
-    part-read-step-of-start
-    part-read-step-of-end
-    read-step-of-requires
+    (λ c. search needs)
+    (λ c. search needs)
+    (λ c. search needs)
+    (λ c κs. search needs)
     add-k
     returns
     sub-j
-    cast-j
-    mul-r
+    (λ c. search needs)
+    (λ c. search needs)
     array-copy-out-r
-    judge-requires
+    (λ c κs. search needs)
     returns-2
-    step-row-requires
-    mul-rows
+    answer-step-requires
+    (λ c. search needs)
+    array-copy-out-row
+    row-after-requires
+    (λ c. search needs)
     array-set-from-rows
     add-at
     loop-less
     loop-again
-    cast-n
+    (λ c. search needs)
     loop2-holds
-    mul-r-2
-    array-copy-out-r-2
-    mul-write-line
-    write-line-requires
-    add-j
-    loop2-less
+    (λ c. search needs)
+    (λ c. search needs)
+    (λ c. search needs)
+    (λ c κs. search needs)
+    (λ c. search needs)
+    (λ c. search needs)
     loop2-again
-    same-length
+    (λ c. search needs)
     returns-3)

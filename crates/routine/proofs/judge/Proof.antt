@@ -1,0 +1,42 @@
+use Rattle.model.specs.Run.{judge}
+use borrow.Author.Tests.{lt-ltb, le-ltb, eq-eqb, ne-eqb}
+use mathlib.Core.Path.{sym, _∙_}
+use borrow.Author.Needs.{needs}
+use Rattle.routine.proofs.judge.Statement.{statement}
+use Rattle.routine.proofs.judge.Tie as tie
+
+returns : tie.Need-returns
+unfolding judge
+returns c = rw (lt-ltb _ _ (c .if1 .taken))
+
+returns-2 : tie.Need-returns-2
+unfolding judge
+returns-2 c = rw (le-ltb _ _ (c .before .if1 .left), c .if2 .taken)
+
+returns-3 : tie.Need-returns-3
+unfolding judge
+returns-3 c = rw (le-ltb _ _ (c .before .before .before .if1 .left), c .before .before .if2 .left, ne-eqb _ _ (c .if3 .taken))
+
+returns-4 : tie.Need-returns-4
+unfolding judge
+returns-4 c = rw (le-ltb _ _ (c .before .before .before .before .before .before .if1 .left), c .before .before .before .before .before .if2 .left, eq-eqb _ _ (c .before .before .before .if3 .left), sym (c .before .is-decided .ensures) ∙ c .if4 .taken)
+
+returns-5 : tie.Need-returns-5
+unfolding judge
+returns-5 c = rw (le-ltb _ _ (c .before .before .before .before .before .before .before .before .before .if1 .left), c .before .before .before .before .before .before .before .before .if2 .left, eq-eqb _ _ (c .before .before .before .before .before .before .if3 .left), sym (c .before .before .before .before .is-decided .ensures) ∙ c .before .before .before .if4 .left, lt-ltb _ _ (c .if5 .taken))
+
+returns-6 : tie.Need-returns-6
+unfolding judge
+returns-6 c = rw (le-ltb _ _ (c .before .before .before .before .before .before .before .before .before .if1 .left), c .before .before .before .before .before .before .before .before .if2 .left, eq-eqb _ _ (c .before .before .before .before .before .before .if3 .left), sym (c .before .before .before .before .is-decided .ensures) ∙ c .before .before .before .if4 .left, le-ltb _ _ (c .if5 .left))
+
+pub judge-spec : {M : Type 1} → statement M
+judge-spec =
+    tie.close
+    (tie.spec
+    returns
+    returns-2
+    returns-3
+    (λ c κs. search needs)
+    returns-4
+    returns-5
+    returns-6)
