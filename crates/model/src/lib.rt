@@ -145,13 +145,11 @@ impl State {
     pub fn fresh(shape: Shape, starts: [u8; 32]) -> Self
         ensures { λ s. ⌜ s ≡ Rattle.model.specs.Run.fresh shape starts ⌝ }
     {
+        let rows = State::start_rows(shape, starts);
+        let bank = Bank::fresh();
         State {
-            rows: State::start_rows(shape, starts),
-            bank: Bank {
-                values: [0; 8],
-                deadlines: [Bank::UNLIMITED; 256],
-                last: 0,
-            },
+            rows,
+            bank,
             shared: Shared { flags: [false; 9] },
             last: 0,
         }

@@ -1,12 +1,12 @@
+-- `State::fresh` meets its contract: its rows and its bank are the fresh ones. Assumes nothing.
 use borrow.Author.Needs.{needs}
-use Rattle.bank.specs.Registers.{freshBank}
 use Rattle.model.specs.Run.{fresh}
 use Rattle.model.proofs.State.fresh.Statement.{statement}
 use Rattle.model.proofs.State.fresh.Tie as tie
 
 returns : tie.Need-returns
-unfolding fresh freshBank
-returns c = rw (c .start-rows .ensures)
+unfolding fresh
+returns c = rw (c .before .start-rows .ensures, c .fresh .ensures)
 
 pub fresh-spec : {M : Type 1} → statement M
-fresh-spec = tie.close (tie.spec (λ c κs. search needs) returns)
+fresh-spec = tie.close (tie.spec (λ c κs. search needs) (λ c κs. search needs) returns)
