@@ -1,3 +1,5 @@
+-- `model::State::fresh` meets its contract.
+-- Assumes nothing.
 use borrow.Author.Needs.{needs}
 use Rattle.bank.specs.Registers.{freshBank}
 use Rattle.model.specs.Run.{fresh}
