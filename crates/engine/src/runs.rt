@@ -116,6 +116,7 @@ fn run_steps(shape: Shape, starts: [u8; 32], rest: &[u8], report: &mut [u32]) ->
         last = step.tick;
         at = at + 8;
     }
+    // The lines are written here, since a function of their own would be handed a copy of the rows.
     let n = shape.count as usize;
     let mut j: usize = 0;
     while j < n {

@@ -1,3 +1,5 @@
+-- `routine::ask` meets its contract.
+-- Assumes nothing.
 use borrow.Author.Needs.{needs}
 use Rattle.routine.proofs.ask.Statement.{statement}
 use Rattle.routine.proofs.ask.Tie as tie

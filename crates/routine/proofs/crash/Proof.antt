@@ -1,3 +1,5 @@
+-- `routine::crash` meets its contract.
+-- Assumes nothing.
 use borrow.Author.Needs.{needs}
 use Rattle.routine.proofs.crash.Statement.{statement}
 use Rattle.routine.proofs.crash.Tie as tie

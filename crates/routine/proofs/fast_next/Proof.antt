@@ -1,3 +1,5 @@
+-- `routine::fast_next` meets its contract.
+-- Assumes nothing.
 use Rattle.model.specs.Routine.{until, decides}
 use borrow.Author.Tests.{eq-eqb, ne-eqb}
 use mathlib.Core.Path.{ap, _∙_}

@@ -1,3 +1,5 @@
+-- `routine::filled` meets its contract.
+-- Assumes nothing.
 use Rattle.routine.proofs.SlotLaws.{slots-filled}
 use borrow.Author.Needs.{needs}
 use Rattle.routine.proofs.filled.Statement.{statement}

@@ -1,3 +1,5 @@
+-- `routine::judge` meets its contract.
+-- Assumes nothing.
 use Rattle.model.specs.Run.{judge}
 use borrow.Author.Tests.{lt-ltb, le-ltb, eq-eqb, ne-eqb}
 use mathlib.Core.Path.{sym, _∙_}

@@ -1,3 +1,5 @@
+-- `routine::leave` meets its contract.
+-- Assumes nothing.
 use Rattle.routine.proofs.SlotLaws.{slots-leave}
 use mathlib.Core.Path.{sym}
 use Rattle.routine.proofs.leave.Statement.{statement}

@@ -1,3 +1,5 @@
+-- `routine::lock_next` meets its contract.
+-- Assumes nothing.
 use Rattle.model.specs.Routine.{on, until}
 use borrow.Author.Tests.{eq-eqb, ne-eqb}
 use mathlib.Core.Path.{ap, ap₂, _∙_}

@@ -1,3 +1,5 @@
+-- `routine::lost` meets its contract.
+-- Assumes nothing.
 use Rattle.routine.proofs.SlotLaws.{slots-lost}
 use mathlib.Core.Path.{sym}
 use Rattle.routine.proofs.lost.Statement.{statement}

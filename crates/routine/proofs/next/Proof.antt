@@ -1,3 +1,5 @@
+-- `routine::next` meets its contract.
+-- Assumes nothing.
 use borrow.Author.Needs.{needs}
 use Rattle.routine.proofs.next.Statement.{statement}
 use Rattle.routine.proofs.next.Tie as tie

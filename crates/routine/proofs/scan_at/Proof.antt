@@ -1,3 +1,5 @@
+-- `routine::scan_at` meets its contract.
+-- Assumes nothing.
 use Rattle.model.specs.Routine.{scans}
 use borrow.Author.Tests.{le-leb, lt-leb}
 use mathlib.Core.Path.{ap, _∙_}

@@ -1,3 +1,5 @@
+-- `routine::scan_from` meets its contract.
+-- Assumes nothing.
 use borrow.Author.Tests.{eq-eqb, ne-eqb}
 use borrow.Author.Needs.{needs}
 use Rattle.routine.proofs.scan_from.Statement.{statement}

@@ -1,3 +1,5 @@
+-- `routine::take` meets its contract.
+-- Assumes nothing.
 use native.Mathlib.Omega.{arith}
 use borrow.Author.Needs.{needs}
 use Rattle.routine.proofs.take.Statement.{statement}

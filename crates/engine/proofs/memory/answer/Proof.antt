@@ -1,3 +1,5 @@
+-- `engine::memory::answer` meets its contract.
+-- Assumes nothing.
 use Rattle.engine.proofs.StepLaws.{answeredRead, answeredWrite}
 use Rattle.engine.specs.Stepped.{sharedOf}
 use Rattle.model.specs.Bounds.{AskFits}
@@ -17,8 +19,7 @@ read-granted-requires c κs =
 write-granted-requires : tie.Need-write-granted-requires
 write-granted-requires c κs =
     let fits = subst AskFits (c .before .before .before .before .q2 .given .1) (c .before .before .before .before .before .before .pre .1 .1) in
-    let pre = c .before .before .before .before .before .before .pre in
-    record { least = pre .0 .least; most = pre .0 .most; slot = fits }
+    search needs
 
 element-write-flags : tie.Need-element-write-flags
 element-write-flags c = omega (arith, subst AskFits (c .before .q3 .given .1) (c .before .before .before .pre .1 .1))

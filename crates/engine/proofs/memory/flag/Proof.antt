@@ -1,3 +1,5 @@
+-- `engine::memory::flag` meets its contract.
+-- Assumes nothing.
 use borrow.Author.Needs.{needs}
 use Rattle.engine.proofs.memory.flag.Statement.{statement}
 use Rattle.engine.proofs.memory.flag.Tie as tie

@@ -1,3 +1,5 @@
+-- `engine::report::write_line` meets its contract.
+-- Assumes nothing.
 use Rattle.model.proofs.ReportLaws.{line-stored}
 use Rattle.model.specs.Routine.{routineOf}
 use denote.Ref.{now}

@@ -1,3 +1,5 @@
+-- `engine::runs::answer_step` meets its contract.
+-- Assumes nothing.
 use mathlib.Core.Path.{subst, sym}
 use borrow.Author.Needs.{needs}
 use borrow.Author.Tests.{eq-eqb, ne-eqb}

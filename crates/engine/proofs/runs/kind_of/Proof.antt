@@ -1,3 +1,5 @@
+-- `engine::runs::kind_of` meets its contract.
+-- Assumes nothing.
 use borrow.Author.Tests.{eq-eqb, ne-eqb}
 use Rattle.engine.proofs.runs.kind_of.Statement.{statement}
 use Rattle.engine.proofs.runs.kind_of.Tie as tie

@@ -1,3 +1,5 @@
+-- `engine::runs::row_after` meets its contract.
+-- Assumes nothing.
 use borrow.Author.Needs.{needs}
 use borrow.Author.Tests.{eq-eqb, ne-eqb}
 use Rattle.engine.specs.Stepped.{stepRow}

@@ -1,3 +1,5 @@
+-- `engine::runs::run` meets its contract.
+-- Assumes nothing.
 use Rattle.engine.proofs.EntryLaws.{unset, begins-inside, narrow, too-long, sound, starts, lined, goes-on}
 use denote.Ref.{now}
 use native.Mathlib.Omega.{arith}

@@ -1,3 +1,5 @@
+-- `engine::runs::run_steps` meets its contract. The first loop goes as the fold over the records does, the second writes the lines of the first j rows.
+-- Assumes nothing.
 use Rattle.engine.proofs.StepLaws.{stateOf, Going, begins, begun, unread, whole, due, roomy, unfit, lands, ends}
 use Rattle.engine.specs.Stepped.{Due}
 use Rattle.model.proofs.ReportLaws.{lines-more}

@@ -1,3 +1,5 @@
+-- `engine::runs::shape_of` meets its contract.
+-- Assumes nothing.
 use borrow.Author.Needs.{needs}
 use Rattle.engine.proofs.runs.shape_of.Statement.{statement}
 use Rattle.engine.proofs.runs.shape_of.Tie as tie

@@ -1,3 +1,5 @@
+-- `model::Row::begin` meets its contract.
+-- Assumes nothing.
 use borrow.Author.Needs.{needs}
 use Rattle.model.proofs.Row.begin.Statement.{statement}
 use Rattle.model.proofs.Row.begin.Tie as tie

@@ -1,3 +1,5 @@
+-- `model::State::start_rows` meets its contract. The first j rows begin, the others are blank.
+-- Assumes nothing.
 use Rattle.model.proofs.StartLaws.{Filled, filled-none, filled-more, filled-done}
 use borrow.Author.Needs.{needs}
 use native.Mathlib.Omega.{arith}
