@@ -395,12 +395,19 @@ fn bank(random: &mut Random, table: &mut Table) {
             || {
                 proved.last = 0;
                 for (&(process, register, tick, last), &read) in calls.iter().zip(&is_read) {
-                    let call = if read { proved_read } else { proved_write };
                     let mut out = 0;
-                    let Bank { values, deadlines, last: last_tick } = &mut proved;
+                    let Bank { values, deadlines, last: at } = &mut proved;
                     // SAFETY: the lent areas have the sizes asked for.
                     let number = unsafe {
-                        call(values, deadlines, last_tick, process, register, tick, last, &mut out)
+                        if read {
+                            proved_read(
+                                values, deadlines, at, process, register, tick, last, &mut out,
+                            )
+                        } else {
+                            proved_write(
+                                values, deadlines, at, process, register, tick, last, &mut out,
+                            )
+                        }
                     };
                     black_box((number, &out));
                 }
