@@ -4,8 +4,10 @@
 //!     cargo run --release --example ratios
 //!
 //! Each case runs in many short rounds that alternate between the two, so that a
-//! busy machine slows both alike; the smallest time of each counts. Small calls go
-//! through function pointers on both sides: neither is inlined into the loop.
+//! busy machine slows both alike; the smallest time of each counts. The plain side
+//! stands behind the same C surface (`plain`), and small calls go through function
+//! pointers on both sides: neither is inlined into the loop, both pass and put out
+//! the same numbers. Lent areas are not cleared before a call.
 
 #[path = "../tests/common/mod.rs"]
 mod common;
@@ -20,7 +22,7 @@ use common::{
     walk::{Walk, endless},
 };
 use ghindulza::sys;
-use independent::{Bank, Process, Refusal, Register, Setup, Step, UNLIMITED, Written};
+use independent::{Bank, UNLIMITED};
 
 const ROUNDS: usize = 40;
 const ROUND: Duration = Duration::from_millis(4);
@@ -104,34 +106,21 @@ impl Table {
                 items += record as usize - 1;
             }
         }
-        let (mut proved_report, mut plain_report) = ([0; 128], [0; 128]);
-        let timed = time(
-            items,
-            || {
+        let side = |call: Run| {
+            let call = black_box(call);
+            let (mut report, mut record) = ([0; 128], 0);
+            move || {
                 for trace in traces {
                     let trace = black_box(&trace[..]);
-                    let mut record = 0;
                     // SAFETY: trace and report are lent with their lengths.
                     let number = unsafe {
-                        sys::ghindulza_run(
-                            trace.as_ptr(),
-                            trace.len(),
-                            proved_report.as_mut_ptr(),
-                            proved_report.len(),
-                            &mut record,
-                        )
+                        call(trace.as_ptr(), trace.len(), report.as_mut_ptr(), 128, &mut record)
                     };
-                    black_box((number, record, &proved_report));
+                    black_box((number, &record, &report));
                 }
-            },
-            || {
-                for trace in traces {
-                    let outcome = independent::run(black_box(trace), &mut plain_report);
-                    black_box((outcome, &plain_report));
-                }
-            },
-            || read_bytes(traces),
-        );
+            }
+        };
+        let timed = time(items, side(sys::ghindulza_run), side(plain::run), || read_bytes(traces));
         self.line(name, item, timed);
     }
 }
@@ -143,16 +132,147 @@ fn read_bytes(areas: &[Vec<u8>]) {
     }
 }
 
-// The shapes of the small calls, so that they can go through pointers.
-type ProvedReadSetup =
+/// The plain implementation behind the C surface.
+mod plain {
+    use std::slice::{from_raw_parts, from_raw_parts_mut};
+
+    use independent::{Bank, Process, Refusal, Register, Written};
+
+    fn told<T: Default>(result: Result<T, Refusal>, out: &mut T) -> u32 {
+        match result {
+            Ok(value) => {
+                *out = value;
+                0
+            }
+            Err(refusal) => {
+                *out = T::default();
+                refusal.number()
+            }
+        }
+    }
+
+    pub unsafe extern "C" fn run(
+        trace: *const u8,
+        trace_len: usize,
+        report: *mut u32,
+        report_len: usize,
+        record: *mut u32,
+    ) -> u32 {
+        // SAFETY: the caller lends what the surface says; so in every function here.
+        let (trace, report) =
+            unsafe { (from_raw_parts(trace, trace_len), from_raw_parts_mut(report, report_len)) };
+        let (number, at) = independent::run(trace, report);
+        unsafe { *record = at };
+        number
+    }
+
+    pub unsafe extern "C" fn read_setup(
+        bytes: *const u8,
+        len: usize,
+        fields: *mut [u32; 5],
+        starts: *mut [u8; 32],
+        rest: *mut [u64; 2],
+    ) -> u32 {
+        let bytes = unsafe { from_raw_parts(bytes, len) };
+        let (fields, starts, rest) = unsafe { (&mut *fields, &mut *starts, &mut *rest) };
+        match independent::read_setup(bytes) {
+            Ok(setup) => {
+                *fields =
+                    [setup.kind as u32, setup.n as u32, setup.size as u32, 0, setup.delta as u32];
+                *starts = setup.starts;
+                let begin = setup.length();
+                *rest = [begin as u64, (len - begin) as u64];
+                0
+            }
+            Err(refusal) => {
+                (*fields, *starts, *rest) = ([0; 5], [0; 32], [0; 2]);
+                refusal.number()
+            }
+        }
+    }
+
+    pub unsafe extern "C" fn read_step(bytes: *const u8, len: usize, fields: *mut [u32; 3]) -> u32 {
+        let step = independent::read_step(unsafe { from_raw_parts(bytes, len) });
+        let numbers = step.map(|step| [step.process as u32, step.event as u32, step.tick]);
+        told(numbers, unsafe { &mut *fields })
+    }
+
+    #[allow(clippy::too_many_arguments)]
+    pub unsafe extern "C" fn write_setup(
+        buffer: *mut u8,
+        len: usize,
+        kind: u8,
+        size: u8,
+        delta: u16,
+        starts: *const u8,
+        n: usize,
+        length: *mut u64,
+    ) -> u32 {
+        let (buffer, starts) =
+            unsafe { (from_raw_parts_mut(buffer, len), from_raw_parts(starts, n)) };
+        let written = independent::write_setup(buffer, kind, size, delta, starts);
+        told(written.map(|length| length as u64), unsafe { &mut *length })
+    }
+
+    pub unsafe extern "C" fn write_step(
+        buffer: *mut u8,
+        len: usize,
+        process: u8,
+        event: u8,
+        tick: u32,
+        length: *mut u64,
+    ) -> u32 {
+        let buffer = unsafe { from_raw_parts_mut(buffer, len) };
+        let written = independent::write_step(buffer, process, event, tick);
+        told(written.map(|length| length as u64), unsafe { &mut *length })
+    }
+
+    /// The bank is one struct here; the two further pointers are passed as the surface
+    /// passes them, and not used.
+    #[allow(clippy::too_many_arguments)]
+    pub unsafe extern "C" fn bank_read(
+        bank: *mut Bank,
+        _deadlines: *mut [u32; 256],
+        _last: *mut u32,
+        process: u32,
+        register: u32,
+        tick: u32,
+        wait: u32,
+        value: *mut u32,
+    ) -> u32 {
+        let bank = unsafe { &mut *bank };
+        let read = bank.read(Process(process), Register(register), tick, wait);
+        told(read, unsafe { &mut *value })
+    }
+
+    #[allow(clippy::too_many_arguments)]
+    pub unsafe extern "C" fn bank_write(
+        bank: *mut Bank,
+        _deadlines: *mut [u32; 256],
+        _last: *mut u32,
+        process: u32,
+        register: u32,
+        tick: u32,
+        value: u32,
+        answer: *mut u32,
+    ) -> u32 {
+        let bank = unsafe { &mut *bank };
+        let written = bank.write(Process(process), Register(register), tick, value);
+        let code = written.map(|written| if written == Written::Done { 1 } else { 2 });
+        told(code, unsafe { &mut *answer })
+    }
+}
+
+// The shapes of the calls, so that they can go through pointers.
+type Run = unsafe extern "C" fn(*const u8, usize, *mut u32, usize, *mut u32) -> u32;
+type ReadSetup =
     unsafe extern "C" fn(*const u8, usize, *mut [u32; 5], *mut [u8; 32], *mut [u64; 2]) -> u32;
-type ProvedWriteSetup =
+type ReadStep = unsafe extern "C" fn(*const u8, usize, *mut [u32; 3]) -> u32;
+type WriteSetup =
     unsafe extern "C" fn(*mut u8, usize, u8, u8, u16, *const u8, usize, *mut u64) -> u32;
-type PlainWriteSetup = fn(&mut [u8], u8, u8, u16, &[u8]) -> Result<usize, Refusal>;
-type ProvedWriteStep = unsafe extern "C" fn(*mut u8, usize, u8, u8, u32, *mut u64) -> u32;
-type PlainWriteStep = fn(&mut [u8], u8, u8, u32) -> Result<usize, Refusal>;
-type ProvedBank = unsafe extern "C" fn(
-    *mut [u32; 8],
+type WriteStep = unsafe extern "C" fn(*mut u8, usize, u8, u8, u32, *mut u64) -> u32;
+type BankCall<First> = unsafe extern "C" fn(
+    *mut First,
     *mut [u32; 256],
     *mut u32,
     u32,
@@ -161,7 +281,6 @@ type ProvedBank = unsafe extern "C" fn(
     u32,
     *mut u32,
 ) -> u32;
-type PlainBank<T> = fn(&mut Bank, Process, Register, u32, u32) -> Result<T, Refusal>;
 
 fn main() {
     let mut random = Random::new(0xBE7C_0001);
@@ -242,86 +361,69 @@ fn refused_traces(random: &mut Random, table: &mut Table) {
 }
 
 fn readers(random: &mut Random, table: &mut Table) {
-    let proved_read = black_box(sys::ghindulza_read_setup as ProvedReadSetup);
-    let plain_read = black_box(independent::read_setup as fn(&[u8]) -> Result<Setup, Refusal>);
     for n in [2, 32] {
         let setups: Vec<_> =
             (0..252).map(|index| endless(random, [1 + index % 3, n, 8], 0, 8)).collect();
-        let timed = time(
-            setups.len(),
-            || {
-                for setup in &setups {
+        let side = |call: ReadSetup| {
+            let call = black_box(call);
+            let (mut fields, mut starts, mut rest) = ([0; 5], [0; 32], [0; 2]);
+            let setups = &setups;
+            move || {
+                for setup in setups {
                     let setup = black_box(&setup[..]);
-                    let (mut fields, mut starts, mut rest) = ([0; 5], [0; 32], [0; 2]);
                     // SAFETY: the lent areas have the sizes asked for.
                     let number = unsafe {
-                        proved_read(
-                            setup.as_ptr(),
-                            setup.len(),
-                            &mut fields,
-                            &mut starts,
-                            &mut rest,
-                        )
+                        call(setup.as_ptr(), setup.len(), &mut fields, &mut starts, &mut rest)
                     };
                     black_box((number, &fields, &starts, &rest));
                 }
-            },
-            || {
-                for setup in &setups {
-                    black_box(&plain_read(black_box(setup)));
-                }
-            },
-            || read_bytes(&setups),
-        );
+            }
+        };
+        let timed =
+            time(setups.len(), side(sys::ghindulza_read_setup), side(plain::read_setup), || {
+                read_bytes(&setups)
+            });
         table.line(&format!("setup read, n {n}"), "call", timed);
     }
 
-    let proved_read = black_box(
-        sys::ghindulza_read_step as unsafe extern "C" fn(*const u8, usize, *mut [u32; 3]) -> u32,
-    );
-    let plain_read = black_box(independent::read_step as fn(&[u8]) -> Result<Step, Refusal>);
     let trace = endless(random, [1, 32, 8], 1_000, 50);
     let steps: Vec<_> = trace[40..].chunks_exact(8).map(<[u8]>::to_vec).collect();
-    let timed = time(
-        steps.len(),
-        || {
-            for step in &steps {
+    let side = |call: ReadStep| {
+        let call = black_box(call);
+        let mut fields = [0; 3];
+        let steps = &steps;
+        move || {
+            for step in steps {
                 let step = black_box(&step[..]);
-                let mut fields = [0; 3];
                 // SAFETY: the lent areas have the sizes asked for.
-                let number = unsafe { proved_read(step.as_ptr(), step.len(), &mut fields) };
+                let number = unsafe { call(step.as_ptr(), step.len(), &mut fields) };
                 black_box((number, &fields));
             }
-        },
-        || {
-            for step in &steps {
-                black_box(&plain_read(black_box(step)));
-            }
-        },
-        || read_bytes(&steps),
-    );
+        }
+    };
+    let timed = time(steps.len(), side(sys::ghindulza_read_step), side(plain::read_step), || {
+        read_bytes(&steps)
+    });
     table.line("step read", "call", timed);
 }
 
 fn writers(random: &mut Random, table: &mut Table) {
-    let proved_write = black_box(sys::ghindulza_write_setup as ProvedWriteSetup);
-    let plain_write = black_box(independent::write_setup as PlainWriteSetup);
     for n in [2, 32] {
         let starts: Vec<Vec<u8>> =
             (0..300).map(|_| (0..n).map(|_| random.between(1, 7) as u8).collect()).collect();
-        let (mut proved_buffer, mut plain_buffer) = ([0; 40], [0; 40]);
-        let timed = time(
-            starts.len(),
-            || {
-                for starts in &starts {
-                    let starts = black_box(&starts[..]);
-                    let mut length = 0;
+        let side = |call: WriteSetup| {
+            let call = black_box(call);
+            let (mut buffer, mut length) = ([0; 40], 0);
+            let starts = &starts;
+            move || {
+                for starts in starts {
+                    let (starts, kind) = (black_box(&starts[..]), black_box(2));
                     // SAFETY: the lent areas have the sizes told.
                     let number = unsafe {
-                        proved_write(
-                            proved_buffer.as_mut_ptr(),
-                            proved_buffer.len(),
-                            black_box(2),
+                        call(
+                            buffer.as_mut_ptr(),
+                            buffer.len(),
+                            kind,
                             8,
                             500,
                             starts.as_ptr(),
@@ -329,55 +431,39 @@ fn writers(random: &mut Random, table: &mut Table) {
                             &mut length,
                         )
                     };
-                    black_box((number, &length, &proved_buffer));
+                    black_box((number, &length, &buffer));
                 }
-            },
-            || {
-                for starts in &starts {
-                    let result =
-                        plain_write(&mut plain_buffer, black_box(2), 8, 500, black_box(starts));
-                    black_box((&result, &plain_buffer));
-                }
-            },
-            || read_bytes(&starts),
-        );
+            }
+        };
+        let timed =
+            time(starts.len(), side(sys::ghindulza_write_setup), side(plain::write_setup), || {
+                read_bytes(&starts)
+            });
         table.line(&format!("setup written, n {n}"), "call", timed);
     }
 
-    let proved_write = black_box(sys::ghindulza_write_step as ProvedWriteStep);
-    let plain_write = black_box(independent::write_step as PlainWriteStep);
     let ticks: Vec<u32> = (0..1_000).map(|_| random.between(0, independent::TOP_TICK)).collect();
     let read: Vec<_> = ticks.iter().map(|_| vec![0_u8; 8]).collect();
-    let (mut proved_buffer, mut plain_buffer) = ([0; 8], [0; 8]);
-    let timed = time(
-        ticks.len(),
-        || {
-            for &tick in &ticks {
-                let mut length = 0;
+    let side = |call: WriteStep| {
+        let call = black_box(call);
+        let (mut buffer, mut length) = ([0; 8], 0);
+        let ticks = &ticks;
+        move || {
+            for &tick in ticks {
                 // SAFETY: the lent areas have the sizes told.
-                let number = unsafe {
-                    proved_write(proved_buffer.as_mut_ptr(), 8, 7, 0, black_box(tick), &mut length)
-                };
-                black_box((number, &length, &proved_buffer));
+                let number =
+                    unsafe { call(buffer.as_mut_ptr(), 8, 7, 0, black_box(tick), &mut length) };
+                black_box((number, &length, &buffer));
             }
-        },
-        || {
-            for &tick in &ticks {
-                let result = plain_write(&mut plain_buffer[..], 7, 0, black_box(tick));
-                black_box((&result, &plain_buffer));
-            }
-        },
-        || read_bytes(&read),
-    );
+        }
+    };
+    let timed = time(ticks.len(), side(sys::ghindulza_write_step), side(plain::write_step), || {
+        read_bytes(&read)
+    });
     table.line("step written", "call", timed);
 }
 
 fn bank(random: &mut Random, table: &mut Table) {
-    let proved_read = black_box(sys::ghindulza_bank_read as ProvedBank);
-    let proved_write = black_box(sys::ghindulza_bank_write as ProvedBank);
-    let plain_read = black_box(Bank::read as PlainBank<u32>);
-    let plain_write = black_box(Bank::write as PlainBank<Written>);
-
     // Process, register, tick, and the wait or the value.
     let mut tick = 0;
     let calls: Vec<(u32, u32, u32, u32)> = (0..1_000)
@@ -389,40 +475,16 @@ fn bank(random: &mut Random, table: &mut Table) {
         .collect();
     for (name, reads_in_8) in [("bank read", 8), ("bank write", 0), ("bank read or write", 4)] {
         let is_read: Vec<bool> = calls.iter().map(|_| random.below(8) < reads_in_8).collect();
-        let (mut proved, mut plain) = (Bank::fresh(), Bank::fresh());
         let timed = time(
             calls.len(),
-            || {
-                proved.last = 0;
-                for (&(process, register, tick, last), &read) in calls.iter().zip(&is_read) {
-                    let mut out = 0;
-                    let Bank { values, deadlines, last: at } = &mut proved;
-                    // SAFETY: the lent areas have the sizes asked for.
-                    let number = unsafe {
-                        if read {
-                            proved_read(
-                                values, deadlines, at, process, register, tick, last, &mut out,
-                            )
-                        } else {
-                            proved_write(
-                                values, deadlines, at, process, register, tick, last, &mut out,
-                            )
-                        }
-                    };
-                    black_box((number, &out));
-                }
-            },
-            || {
-                plain.last = 0;
-                for (&(process, register, tick, last), &read) in calls.iter().zip(&is_read) {
-                    let (process, register) = (Process(process), Register(register));
-                    if read {
-                        black_box(&plain_read(&mut plain, process, register, tick, last));
-                    } else {
-                        black_box(&plain_write(&mut plain, process, register, tick, last));
-                    }
-                }
-            },
+            bank_side(
+                &calls,
+                &is_read,
+                sys::ghindulza_bank_read,
+                sys::ghindulza_bank_write,
+                |bank| &raw mut bank.values,
+            ),
+            bank_side(&calls, &is_read, plain::bank_read, plain::bank_write, |bank| bank),
             || {
                 black_box(
                     black_box(&calls).iter().fold(0_u32, |sum, call| sum.wrapping_add(call.2)),
@@ -430,5 +492,34 @@ fn bank(random: &mut Random, table: &mut Table) {
             },
         );
         table.line(name, "call", timed);
+    }
+}
+
+/// One side of the bank's timing. `first` says what its functions take first.
+fn bank_side<First>(
+    calls: &[(u32, u32, u32, u32)],
+    is_read: &[bool],
+    read: BankCall<First>,
+    write: BankCall<First>,
+    first: fn(&mut Bank) -> *mut First,
+) -> impl FnMut() {
+    let (read, write) = black_box((read, write));
+    let mut bank = Bank::fresh();
+    move || {
+        bank.last = 0;
+        let lent = first(&mut bank);
+        let (deadlines, last) = (&raw mut bank.deadlines, &raw mut bank.last);
+        for (&(process, register, tick, x), &is_read) in calls.iter().zip(is_read) {
+            let mut out = 0;
+            // SAFETY: the lent areas have the sizes asked for.
+            let number = unsafe {
+                if is_read {
+                    read(lent, deadlines, last, process, register, tick, x, &mut out)
+                } else {
+                    write(lent, deadlines, last, process, register, tick, x, &mut out)
+                }
+            };
+            black_box((number, &out));
+        }
     }
 }
