@@ -23,10 +23,10 @@ library:
 	@rt staticlib ghindulza
 
 compare-quick: library program
-	@.ci/compare 1
+	@.ci/compare 4
 
 compare: library program
-	@.ci/compare 20
+	@.ci/compare 40
 
 bench: library
 	@$(CARGO) run $(RUST) --example ratios
