@@ -13,10 +13,10 @@ use crate::report;
 use bank::Bank;
 use model::Kind;
 use model::Outcome;
+use model::Place;
 use model::Reply;
 use model::Row;
 use model::Shape;
-use model::State;
 use terms::Trace;
 use trace::Setup;
 use trace::Step;
@@ -76,7 +76,14 @@ fn run_steps(shape: Shape, starts: [u8; 32], rest: &[u8], report: &mut [u32]) ->
     ensures { λ r. ⌜ record { outcome = r; report = now (report .exit) } ≡ ranFrom shape starts (now (rest .entry)) (now (report .entry)) ⌝ }
 {
     let kind = shape.kind;
-    let mut rows = State::start_rows(shape, starts);
+    let n = shape.count as usize;
+    // The rows are made here, since a function of their own would hand them over by a copy.
+    let mut rows = [Row::unmoved(Place::Rest, 0, 0); 32];
+    let mut made: usize = 0;
+    while made < n {
+        rows[made] = Row::begin(kind, made as u32, starts[made]);
+        made = made + 1;
+    }
     let mut values = [0u32; 8];
     let mut deadlines = [Bank::UNLIMITED; 256];
     let mut touched: u32 = 0;
@@ -116,8 +123,7 @@ fn run_steps(shape: Shape, starts: [u8; 32], rest: &[u8], report: &mut [u32]) ->
         last = step.tick;
         at = at + 8;
     }
-    // The lines are written here, since a function of their own would be handed a copy of the rows.
-    let n = shape.count as usize;
+    // The lines are written here for the same reason.
     let mut j: usize = 0;
     while j < n {
         let r = rows[j];

@@ -91,7 +91,7 @@ pub struct Outcome {
 
 impl Row {
     // A process that has not moved, at its place with slot c, that writes `own`.
-    fn unmoved(place: Place, c: u32, own: u32) -> Self
+    pub fn unmoved(place: Place, c: u32, own: u32) -> Self
         ensures { λ r. ⌜ r ≡ Rattle.model.specs.Routine.unmoved place c own ⌝ }
     {
         Row {
@@ -110,7 +110,7 @@ impl Row {
     }
 
     // The row at index j, of a process with start byte x.
-    fn begin(kind: Kind, j: u32, x: u8) -> Self
+    pub fn begin(kind: Kind, j: u32, x: u8) -> Self
         requires { ⌜ j < mostProcesses ⌝ }
         ensures { λ r. ⌜ r ≡ Rattle.model.specs.Routine.begin (routineOf kind) j x ⌝ }
     {
@@ -125,7 +125,7 @@ impl Row {
 
 impl State {
     // The rows at the start: where the kind begins, and blank past the last process.
-    pub fn start_rows(shape: Shape, starts: [u8; 32]) -> [Row; 32]
+    fn start_rows(shape: Shape, starts: [u8; 32]) -> [Row; 32]
         ensures { λ rows. ⌜ rows ≡ startRows shape 0 starts ⌝ }
     {
         let kind = shape.kind;

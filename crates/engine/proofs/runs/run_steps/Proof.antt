@@ -1,9 +1,10 @@
--- `engine::runs::run_steps` meets its contract. The first loop goes as the fold over the records does, the second writes the lines of the first j rows.
+-- `engine::runs::run_steps` meets its contract. The first loop begins the rows, the second goes as the fold over the records
+-- does, the third writes the lines of the first j rows.
 -- Assumes nothing.
 use Rattle.engine.proofs.StepLaws.{stateOf, Going, begins, begun, unread, whole, due, roomy, unfit, lands, ends}
 use Rattle.engine.specs.Stepped.{Due}
 use Rattle.model.proofs.ReportLaws.{lines-more}
-use Rattle.model.proofs.Keeping.{length-startRows}
+use Rattle.model.proofs.StartLaws.{Filled, filled-none, filled-more, filled-done}
 use Rattle.model.specs.Report.{lines}
 use Rattle.model.specs.Run.{rowOf, fresh}
 use Rattle.model.specs.Routine.{routineOf}
@@ -23,112 +24,130 @@ use Rattle.engine.proofs.runs.run_steps.Statement.{statement}
 use Rattle.engine.proofs.runs.run_steps.Tie as tie
 
 abbrev Inv-loop : tie.InvT-loop
-Inv-loop shape rest report kind rows₀ values₀ deadlines₀ touched₀ flags₀ last₀ at₀ k₀ rows values deadlines touched flags last at k =
-    Going shape (stateOf rows₀ values₀ deadlines₀ touched₀ flags₀ last₀) rest (stateOf rows values deadlines touched flags last) at k
+Inv-loop shape rest report starts kind n rows₀ made₀ rows made = (made ≤ n) × Filled shape starts made rows
 
 abbrev μ-loop : tie.MeasureT-loop
-μ-loop shape rest report kind rows₀ values₀ deadlines₀ touched₀ flags₀ last₀ at₀ k₀ rows values deadlines touched flags last at k = length rest - at
+μ-loop shape rest report starts kind n rows₀ made₀ rows made = n - made
 
 abbrev Inv-loop2 : tie.InvT-loop2
-Inv-loop2 rest report₀ kind rows touched last at k n j₀ report j = (j ≤ n) × (length report ≡ length report₀) × (report ≡ overlay (lines (routineOf kind) rows j) report₀)
+Inv-loop2 shape rest report kind n rows₀ made values₀ deadlines₀ touched₀ flags₀ last₀ at₀ k₀ rows values deadlines touched flags last at k =
+    Going shape (stateOf rows₀ values₀ deadlines₀ touched₀ flags₀ last₀) rest (stateOf rows values deadlines touched flags last) at k
 
 abbrev μ-loop2 : tie.MeasureT-loop2
-μ-loop2 rest report₀ kind rows touched last at k n j₀ report j = n - j
+μ-loop2 shape rest report kind n rows₀ made values₀ deadlines₀ touched₀ flags₀ last₀ at₀ k₀ rows values deadlines touched flags last at k = length rest - at
 
--- the loop begins with the fresh state
-freshly : (c : tie.After-start-rows Inv-loop μ-loop Inv-loop2 μ-loop2) → stateOf (c .start-rows .result) (replicate 8 0) (replicate 256 4294967295) 0 (replicate 9 false) 0 ≡ fresh (c .before .before .before .args .shape) (c .before .before .before .args .starts)
+abbrev Inv-loop3 : tie.InvT-loop3
+Inv-loop3 rest report₀ kind n rows made touched last at k j₀ report j = (j ≤ n) × (length report ≡ length report₀) × (report ≡ overlay (lines (routineOf kind) rows j) report₀)
+
+abbrev μ-loop3 : tie.MeasureT-loop3
+μ-loop3 rest report₀ kind n rows made touched last at k j₀ report j = n - j
+
+-- the records begin with the fresh state
+freshly : (c : tie.After-loop Inv-loop μ-loop Inv-loop2 μ-loop2 Inv-loop3 μ-loop3) → stateOf (c .before .loop .rows) (replicate 8 0) (replicate 256 4294967295) 0 (replicate 9 false) 0 ≡ fresh (c .before .before .before .before .before .before .args .shape) (c .before .before .before .before .before .before .args .t2)
 unfolding fresh freshBank
-freshly c = ap (λ (rows : _). stateOf rows (replicate 8 0) (replicate 256 4294967295) 0 (replicate 9 false) 0) (c .start-rows .ensures)
+freshly c =
+    let l = c .before in
+    let s = l .before .before .before .before .before in
+    ap (λ (rows : _). stateOf rows (replicate 8 0) (replicate 256 4294967295) 0 (replicate 9 false) 0)
+    (filled-done (s .args .shape) (s .args .t2) (l .loop .made) (l .loop .rows) (l .loop .inv .1) (s .pre .1 .0 .long) (λ i h k. omega (arith, c .loop-test .left)))
 
 -- how far it is
-here : (c : tie.At-loop Inv-loop μ-loop Inv-loop2 μ-loop2) → Going (c .before .before .before .before .args .shape) (fresh (c .before .before .before .before .args .shape) (c .before .before .before .before .args .starts)) (now (c .before .before .before .before .args .rest)) (stateOf (c .loop .rows) (c .loop .values) (c .loop .deadlines) (c .loop .touched) (c .loop .flags) (c .loop .last)) (c .loop .at) (c .loop .k)
-here c = begun (freshly (c .before)) (c .loop .inv)
+here : (c : tie.At-loop2 Inv-loop μ-loop Inv-loop2 μ-loop2 Inv-loop3 μ-loop3) → Going (c .before .before .before .before .before .before .before .args .shape) (fresh (c .before .before .before .before .before .before .before .args .shape) (c .before .before .before .before .before .before .before .args .t2)) (now (c .before .before .before .before .before .before .before .args .rest)) (stateOf (c .loop2 .rows) (c .loop2 .values) (c .loop2 .deadlines) (c .loop2 .touched) (c .loop2 .flags) (c .loop2 .last)) (c .loop2 .at) (c .loop2 .k)
+here c = begun (freshly (c .before)) (c .loop2 .inv)
 
 -- what was read
-found : (c : tie.After-read-step-of Inv-loop μ-loop Inv-loop2 μ-loop2) → c .read-step-of .result ≡ stepRead (c .before .before .before .before .before .before .before .args .shape .count) (drop (c .before .before .before .loop .at) (now (c .before .before .before .before .before .before .before .args .rest)))
-found c = c .read-step-of .ensures ∙ ap (stepRead (c .before .before .before .before .before .before .before .args .shape .count)) (part-to-end (c .before .before .before .loop .at) (now (c .before .before .before .before .before .before .before .args .rest)))
+found : (c : tie.After-read-step-of Inv-loop μ-loop Inv-loop2 μ-loop2 Inv-loop3 μ-loop3) → c .read-step-of .result ≡ stepRead (c .before .before .before .before .before .before .before .before .before .before .args .shape .count) (drop (c .before .before .before .loop2 .at) (now (c .before .before .before .before .before .before .before .before .before .before .args .rest)))
+found c = c .read-step-of .ensures ∙ ap (stepRead (c .before .before .before .before .before .before .before .before .before .before .args .shape .count)) (part-to-end (c .before .before .before .loop2 .at) (now (c .before .before .before .before .before .before .before .before .before .before .args .rest)))
 
 -- an accepted step's numbers are in range, its record has its eight bytes, its row has room
-fit : (c : tie.Else1 Inv-loop μ-loop Inv-loop2 μ-loop2) → Due (c .before .before .read-step-of .result .step)
+fit : (c : tie.Else1 Inv-loop μ-loop Inv-loop2 μ-loop2 Inv-loop3 μ-loop3) → Due (c .before .before .read-step-of .result .step)
 fit c =
     let m = c .before .before in
-    due _ _ _ _ _ _ (here (m .before .before .before)) (m .before .before .loop-test .taken) (m .read-step-of .result) (found m) (c .if1 .left) (m .before .before .before .before .before .before .before .pre .0 .few)
+    due _ _ _ _ _ _ (here (m .before .before .before)) (m .before .before .loop2-test .taken) (m .read-step-of .result) (found m) (c .if1 .left) (m .before .before .before .before .before .before .before .before .before .before .pre .0 .few)
 
-full : (c : tie.Else1 Inv-loop μ-loop Inv-loop2 μ-loop2) → c .before .before .before .before .before .loop .at + 8 ≤ length (now (c .before .before .before .before .before .before .before .before .before .args .rest))
+full : (c : tie.Else1 Inv-loop μ-loop Inv-loop2 μ-loop2 Inv-loop3 μ-loop3) → c .before .before .before .before .before .loop2 .at + 8 ≤ length (now (c .before .before .before .before .before .before .before .before .before .before .before .before .args .rest))
 full c =
     let m = c .before .before in
-    whole _ _ _ _ _ _ (here (m .before .before .before)) (m .before .before .loop-test .taken) (m .read-step-of .result) (found m) (c .if1 .left)
+    whole _ _ _ _ _ _ (here (m .before .before .before)) (m .before .before .loop2-test .taken) (m .read-step-of .result) (found m) (c .if1 .left)
 
-room : (c : tie.Else1 Inv-loop μ-loop Inv-loop2 μ-loop2) → Room (c .before .before .before .before .before .before .before .before .before .args .shape) (rowOf (stateOf (c .before .before .before .before .before .loop .rows) (c .before .before .before .before .before .loop .values) (c .before .before .before .before .before .loop .deadlines) (c .before .before .before .before .before .loop .touched) (c .before .before .before .before .before .loop .flags) (c .before .before .before .before .before .loop .last)) (c .before .before .read-step-of .result .step .process))
+room : (c : tie.Else1 Inv-loop μ-loop Inv-loop2 μ-loop2 Inv-loop3 μ-loop3) → Room (c .before .before .before .before .before .before .before .before .before .before .before .before .args .shape) (rowOf (stateOf (c .before .before .before .before .before .loop2 .rows) (c .before .before .before .before .before .loop2 .values) (c .before .before .before .before .before .loop2 .deadlines) (c .before .before .before .before .before .loop2 .touched) (c .before .before .before .before .before .loop2 .flags) (c .before .before .before .before .before .loop2 .last)) (c .before .before .read-step-of .result .step .process))
 room c =
     let m = c .before .before in
-    let pre = m .before .before .before .before .before .before .before .pre in
-    roomy _ _ _ _ _ _ (here (m .before .before .before)) (m .before .before .loop-test .taken) (m .read-step-of .result) (found m) (c .if1 .left) (pre .0) (pre .1 .0) (pre .1 .1 .0)
+    let pre = m .before .before .before .before .before .before .before .before .before .before .pre in
+    roomy _ _ _ _ _ _ (here (m .before .before .before)) (m .before .before .loop2-test .taken) (m .read-step-of .result) (found m) (c .if1 .left) (pre .0) (pre .1 .0) (pre .1 .1 .0)
 
-loop-holds : tie.Need-loop-holds Inv-loop μ-loop Inv-loop2 μ-loop2
-loop-holds c = let a = c .before .before .before .args in
-    begins _ _ _ (ap length (c .start-rows .ensures) ∙ length-startRows (a .shape) 0 (a .starts) ∙ c .before .before .before .pre .1 .0 .long)
+loop-holds : tie.Need-loop-holds Inv-loop μ-loop Inv-loop2 μ-loop2 Inv-loop3 μ-loop3
+loop-holds c = let a = c .before .before .before .before .args in (search needs, filled-none (a .shape) (a .t2) (c .unmoved .result) (c .unmoved .ensures))
 
-add-k : tie.Need-add-k Inv-loop μ-loop Inv-loop2 μ-loop2
-add-k c = omega (arith, c .before .before .before .loop .inv .here, c .before .before .before .before .before .before .before .pre .1 .1 .0)
+loop-again : tie.Need-loop-again Inv-loop μ-loop Inv-loop2 μ-loop2 Inv-loop3 μ-loop3
+loop-again c =
+    let l = c .before .before in
+    let s = l .before .before .before .before .before in
+    (omega (arith, c .before .loop-test .taken), filled-more (s .args .shape) (s .args .t2) (l .loop .made) (l .loop .rows) (l .loop .inv .1) (omega (arith, c .before .loop-test .taken, s .pre .0 .few)) (c .before .loop-test .taken) (c .begin .ensures))
 
-returns : tie.Need-returns Inv-loop μ-loop Inv-loop2 μ-loop2
+loop2-holds : tie.Need-loop2-holds Inv-loop μ-loop Inv-loop2 μ-loop2 Inv-loop3 μ-loop3
+loop2-holds c = begins _ _ _ (c .before .loop .inv .1 .long)
+
+add-k : tie.Need-add-k Inv-loop μ-loop Inv-loop2 μ-loop2 Inv-loop3 μ-loop3
+add-k c = omega (arith, c .before .before .before .loop2 .inv .here, c .before .before .before .before .before .before .before .before .before .before .pre .1 .1 .0)
+
+returns : tie.Need-returns Inv-loop μ-loop Inv-loop2 μ-loop2 Inv-loop3 μ-loop3
 returns c = let m = c .before .before in
-    unread _ _ _ _ _ _ (here (m .before .before .before)) (m .before .before .loop-test .taken) (m .read-step-of .result) (found m) (c .if1 .taken) (now (m .before .before .before .before .before .before .before .args .report))
+    unread _ _ _ _ _ _ (here (m .before .before .before)) (m .before .before .loop2-test .taken) (m .read-step-of .result) (found m) (c .if1 .taken) (now (m .before .before .before .before .before .before .before .before .before .before .args .report))
 
-sub-j : tie.Need-sub-j Inv-loop μ-loop Inv-loop2 μ-loop2
+sub-j : tie.Need-sub-j Inv-loop μ-loop Inv-loop2 μ-loop2 Inv-loop3 μ-loop3
 sub-j c = omega (arith, fit (c .before .before))
 
-array-copy-out-r : tie.Need-array-copy-out-r Inv-loop μ-loop Inv-loop2 μ-loop2
-array-copy-out-r c = omega (arith, fit (c .before .before), c .before .before .before .before .before .before .before .loop .inv .long)
+array-copy-out-r : tie.Need-array-copy-out-r Inv-loop μ-loop Inv-loop2 μ-loop2 Inv-loop3 μ-loop3
+array-copy-out-r c = omega (arith, fit (c .before .before), c .before .before .before .before .before .before .before .loop2 .inv .long)
 
-returns-2 : tie.Need-returns-2 Inv-loop μ-loop Inv-loop2 μ-loop2
+returns-2 : tie.Need-returns-2 Inv-loop μ-loop Inv-loop2 μ-loop2 Inv-loop3 μ-loop3
 returns-2 c =
     let m = c .before .before .before .before .before .before .before in
-    unfit _ _ _ _ _ _ (here (m .before .before .before)) (m .before .before .loop-test .taken) (m .read-step-of .result) (found m) (c .before .before .before .before .before .if1 .left) _ (c .before .judge .ensures) (c .if2 .taken) (now (m .before .before .before .before .before .before .before .args .report))
+    unfit _ _ _ _ _ _ (here (m .before .before .before)) (m .before .before .loop2-test .taken) (m .read-step-of .result) (found m) (c .before .before .before .before .before .if1 .left) _ (c .before .judge .ensures) (c .if2 .taken) (now (m .before .before .before .before .before .before .before .before .before .before .args .report))
 
-answer-step-requires : tie.Need-answer-step-requires Inv-loop μ-loop Inv-loop2 μ-loop2
+answer-step-requires : tie.Need-answer-step-requires Inv-loop μ-loop Inv-loop2 μ-loop2 Inv-loop3 μ-loop3
 answer-step-requires c κs = (room (c .before .before .before .before .before .before .before .before .before), fit (c .before .before .before .before .before .before .before .before .before))
 
-array-copy-out-row : tie.Need-array-copy-out-row Inv-loop μ-loop Inv-loop2 μ-loop2
-array-copy-out-row c = omega (arith, fit (c .before .before .before .before .before .before .before .before .before .before), c .before .before .before .before .before .before .before .before .before .before .before .before .before .before .before .loop .inv .long)
+array-copy-out-row : tie.Need-array-copy-out-row Inv-loop μ-loop Inv-loop2 μ-loop2 Inv-loop3 μ-loop3
+array-copy-out-row c = omega (arith, fit (c .before .before .before .before .before .before .before .before .before .before), c .before .before .before .before .before .before .before .before .before .before .before .before .before .before .before .loop2 .inv .long)
 
-row-after-requires : tie.Need-row-after-requires Inv-loop μ-loop Inv-loop2 μ-loop2
-row-after-requires c κs = (c .before .before .before .before .before .before .before .before .before .before .before .before .before .before .before .before .before .before .before .before .pre .0, (room (c .before .before .before .before .before .before .before .before .before .before .before), fit (c .before .before .before .before .before .before .before .before .before .before .before)))
+row-after-requires : tie.Need-row-after-requires Inv-loop μ-loop Inv-loop2 μ-loop2 Inv-loop3 μ-loop3
+row-after-requires c κs = (c .before .before .before .before .before .before .before .before .before .before .before .before .before .before .before .before .before .before .before .before .before .before .before .pre .0, (room (c .before .before .before .before .before .before .before .before .before .before .before), fit (c .before .before .before .before .before .before .before .before .before .before .before)))
 
-array-set-from-rows : tie.Need-array-set-from-rows Inv-loop μ-loop Inv-loop2 μ-loop2
-array-set-from-rows c = omega (arith, fit (c .before .before .before .before .before .before .before .before .before .before .before .before), c .before .before .before .before .before .before .before .before .before .before .before .before .before .before .before .before .before .loop .inv .long)
+array-set-from-rows-2 : tie.Need-array-set-from-rows-2 Inv-loop μ-loop Inv-loop2 μ-loop2 Inv-loop3 μ-loop3
+array-set-from-rows-2 c = omega (arith, fit (c .before .before .before .before .before .before .before .before .before .before .before .before), c .before .before .before .before .before .before .before .before .before .before .before .before .before .before .before .before .before .loop2 .inv .long)
 
-add-at : tie.Need-add-at Inv-loop μ-loop Inv-loop2 μ-loop2
-add-at c = omega (arith, full (c .before .before .before .before .before .before .before .before .before .before .before .before), c .before .before .before .before .before .before .before .before .before .before .before .before .before .before .before .before .before .before .before .before .before .pre .1 .1 .0)
+add-at : tie.Need-add-at Inv-loop μ-loop Inv-loop2 μ-loop2 Inv-loop3 μ-loop3
+add-at c = omega (arith, full (c .before .before .before .before .before .before .before .before .before .before .before .before), c .before .before .before .before .before .before .before .before .before .before .before .before .before .before .before .before .before .before .before .before .before .before .before .before .pre .1 .1 .0)
 
-loop-less : tie.Need-loop-less Inv-loop μ-loop Inv-loop2 μ-loop2
-loop-less c = omega (arith, c .before .before .before .before .before .before .before .before .before .before .before .before .before .before .before .before .loop-test .taken)
+loop2-less : tie.Need-loop2-less Inv-loop μ-loop Inv-loop2 μ-loop2 Inv-loop3 μ-loop3
+loop2-less c = omega (arith, c .before .before .before .before .before .before .before .before .before .before .before .before .before .before .before .before .loop2-test .taken)
 
-loop-again : tie.Need-loop-again Inv-loop μ-loop Inv-loop2 μ-loop2
-loop-again c =
+loop2-again : tie.Need-loop2-again Inv-loop μ-loop Inv-loop2 μ-loop2 Inv-loop3 μ-loop3
+loop2-again c =
     let m = c .before .before .before .before .before .before .before .before .before .before .before .before .before .before in
     let l = m .before .before .before in
     begun (sym (freshly (l .before)))
-    (lands _ _ _ _ _ _ (here l) (m .before .before .loop-test .taken) (m .read-step-of .result) (found m) (c .before .before .before .before .before .before .before .before .before .before .before .before .if1 .left) (c .before .before .before .before .before .before .before .before .judge .ensures) (c .before .before .before .before .before .before .before .if2 .left) (c .before .before .answer-step .ensures) (c .row-after .ensures))
+    (lands _ _ _ _ _ _ (here l) (m .before .before .loop2-test .taken) (m .read-step-of .result) (found m) (c .before .before .before .before .before .before .before .before .before .before .before .before .if1 .left) (c .before .before .before .before .before .before .before .before .judge .ensures) (c .before .before .before .before .before .before .before .if2 .left) (c .before .before .answer-step .ensures) (c .row-after .ensures))
 
-loop2-holds : tie.Need-loop2-holds Inv-loop μ-loop Inv-loop2 μ-loop2
+loop3-holds : tie.Need-loop3-holds Inv-loop μ-loop Inv-loop2 μ-loop2 Inv-loop3 μ-loop3
 unfolding lines
-loop2-holds c = (search needs, refl, refl)
+loop3-holds c = (search needs, refl, refl)
 
-loop2-again : tie.Need-loop2-again Inv-loop μ-loop Inv-loop2 μ-loop2
-loop2-again c =
+loop3-again : tie.Need-loop3-again Inv-loop μ-loop Inv-loop2 μ-loop2 Inv-loop3 μ-loop3
+loop3-again c =
     let l = c .before .before .before .before .before .before in (
       omega arith,
       search needs,
-      c .before .before .write-line .ensures ∙ lines-more (routineOf (c .before .before .before .before .before .before .before .before .before .before .before .before .before .args .shape .kind)) (c .before .before .before .before .before .before .before .before .before .loop .rows) (l .loop2 .j) (now (c .before .before .before .before .before .before .before .before .before .before .before .before .before .args .report)) (l .loop2 .report) (l .loop2 .inv .2),
+      c .before .before .write-line .ensures ∙ lines-more (routineOf (c .before .before .before .before .before .before .before .before .before .before .before .before .before .before .before .args .shape .kind)) (c .before .before .before .before .before .before .before .before .loop2 .rows) (l .loop3 .j) (now (c .before .before .before .before .before .before .before .before .before .before .before .before .before .before .before .args .report)) (l .loop3 .report) (l .loop3 .inv .2),
     )
 
-returns-3 : tie.Need-returns-3 Inv-loop μ-loop Inv-loop2 μ-loop2
+returns-3 : tie.Need-returns-3 Inv-loop μ-loop Inv-loop2 μ-loop2 Inv-loop3 μ-loop3
 returns-3 c =
-    let l = c .before .before .before .before in
-    let n : c .before .loop2 .j ≡ l .before .before .before .before .args .shape .count = omega arith in
-    ends _ _ _ _ _ _ (here l) (c .before .before .before .loop-test .left) _ _ (rw (← n) (c .before .loop2 .inv .2))
+    let l = c .before .before .before in
+    let n : c .before .loop3 .j ≡ l .before .before .before .before .before .before .before .args .shape .count = omega arith in
+    ends _ _ _ _ _ _ (here l) (c .before .before .loop2-test .left) _ _ (rw (← n) (c .before .loop3 .inv .2))
 
 pub run-steps-spec : {M : Type 1} → statement M
 run-steps-spec =
@@ -138,8 +157,20 @@ run-steps-spec =
     μ-loop
     Inv-loop2
     μ-loop2
+    Inv-loop3
+    μ-loop3
+    (λ c. search needs)
     (λ c κs. search needs)
     loop-holds
+    (λ c. search needs)
+    (λ c. search needs)
+    (λ c κs. search needs)
+    (λ c. search needs)
+    (λ c. search needs)
+    (λ c. search needs)
+    (λ c. search needs)
+    loop-again
+    loop2-holds
     (λ c. search needs)
     (λ c. search needs)
     (λ c. search needs)
@@ -157,18 +188,17 @@ run-steps-spec =
     array-copy-out-row
     row-after-requires
     (λ c. search needs)
-    array-set-from-rows
+    array-set-from-rows-2
     add-at
-    loop-less
-    loop-again
-    (λ c. search needs)
-    loop2-holds
+    loop2-less
+    loop2-again
+    loop3-holds
     (λ c. search needs)
     (λ c. search needs)
     (λ c. search needs)
     (λ c κs. search needs)
     (λ c. search needs)
     (λ c. search needs)
-    loop2-again
+    loop3-again
     (λ c. search needs)
     returns-3)
