@@ -13,7 +13,6 @@ use crate::report;
 use bank::Bank;
 use model::Kind;
 use model::Outcome;
-use model::Place;
 use model::Reply;
 use model::Row;
 use model::Shape;
@@ -77,11 +76,15 @@ fn run_steps(shape: Shape, starts: [u8; 32], rest: &[u8], report: &mut [u32]) ->
 {
     let kind = shape.kind;
     let n = shape.count as usize;
-    // The rows are made here, since a function of their own would hand them over by a copy.
-    let mut rows = [Row::unmoved(Place::Rest, 0, 0); 32];
+    // The rows are made here, since a function of their own would hand them over by a copy. A row that begins has another value and slot than
+    // an idle one; nothing else is written.
+    let mut rows = [Row::idle(kind); 32];
     let mut made: usize = 0;
     while made < n {
-        rows[made] = Row::begin(kind, made as u32, starts[made]);
+        let r = Row::begin(kind, made as u32, starts[made]);
+        rows[made].own = r.own;
+        let x = r.local;
+        rows[made].local.slot.0 = x.slot.0;
         made = made + 1;
     }
     let mut values = [0u32; 8];

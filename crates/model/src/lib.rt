@@ -91,7 +91,7 @@ pub struct Outcome {
 
 impl Row {
     // A process that has not moved, at its place with slot c, that writes `own`.
-    pub fn unmoved(place: Place, c: u32, own: u32) -> Self
+    fn unmoved(place: Place, c: u32, own: u32) -> Self
         ensures { λ r. ⌜ r ≡ Rattle.model.specs.Routine.unmoved place c own ⌝ }
     {
         Row {
@@ -106,6 +106,17 @@ impl Row {
             moves: 0,
             lates: 0,
             crashed: false,
+        }
+    }
+
+    // Where no process is: as one stands that begins, with slot and value 0.
+    pub fn idle(kind: Kind) -> Self
+        ensures { λ r. ⌜ r ≡ Rattle.model.specs.Routine.idle (routineOf kind) ⌝ }
+    {
+        match kind {
+            Kind::Lock => Row::unmoved(Place::Rest, 0, 0),
+            Kind::Plain => Row::unmoved(Place::Look, 0, 0),
+            Kind::Fast => Row::unmoved(Place::Flag, 0, 0),
         }
     }
 
@@ -124,12 +135,12 @@ impl Row {
 }
 
 impl State {
-    // The rows at the start: where the kind begins, and blank past the last process.
+    // The rows at the start: where the kind begins, idle past the last process.
     fn start_rows(shape: Shape, starts: [u8; 32]) -> [Row; 32]
         ensures { λ rows. ⌜ rows ≡ startRows shape 0 starts ⌝ }
     {
         let kind = shape.kind;
-        let mut rows = [Row::unmoved(Place::Rest, 0, 0); 32];
+        let mut rows = [Row::idle(kind); 32];
         let mut j: usize = 0;
         while j < 32 {
             if shape.count <= j as u32 {

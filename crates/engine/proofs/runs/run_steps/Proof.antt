@@ -1,25 +1,25 @@
 -- `engine::runs::run_steps` meets its contract. The first loop begins the rows, the second goes as the fold over the records
 -- does, the third writes the lines of the first j rows.
 -- Assumes nothing.
-use Rattle.engine.proofs.StepLaws.{stateOf, Going, begins, begun, unread, whole, due, roomy, unfit, lands, ends}
-use Rattle.engine.specs.Stepped.{Due}
-use Rattle.model.proofs.ReportLaws.{lines-more}
-use Rattle.model.proofs.StartLaws.{Filled, filled-none, filled-more, filled-done}
-use Rattle.model.specs.Report.{lines}
-use Rattle.model.specs.Run.{rowOf, fresh}
-use Rattle.model.specs.Routine.{routineOf}
-use Rattle.model.specs.Bounds.{Room}
-use Rattle.trace.specs.Step.{stepRead}
-use Rattle.bank.specs.Registers.{freshBank}
-use Rattle.terms.proofs.Parts.{part-to-end}
-use Rattle.terms.specs.Overlay.{overlay}
-use lib.ListN.{length, drop, replicate}
-use denote.Ref.{now}
-use borrow.Author.Needs.{needs}
-use native.Mathlib.Omega.{arith}
-use mathlib.Core.Bool.{false}
-use mathlib.Core.Path.{_≡_, refl, sym, ap, _∙_}
 use Prim.Native.Nat.{_≤_, _+_, _-_}
+use mathlib.Core.Path.{_≡_, refl, sym, ap, _∙_}
+use mathlib.Core.Bool.{false}
+use native.Mathlib.Omega.{arith}
+use borrow.Author.Needs.{needs}
+use denote.Ref.{now}
+use lib.ListN.{length, drop, replicate}
+use Rattle.terms.specs.Overlay.{overlay}
+use Rattle.terms.proofs.Parts.{part-to-end}
+use Rattle.bank.specs.Registers.{freshBank}
+use Rattle.trace.specs.Step.{stepRead}
+use Rattle.model.specs.Bounds.{Room}
+use Rattle.model.specs.Routine.{routineOf}
+use Rattle.model.specs.Run.{rowOf, fresh}
+use Rattle.model.specs.Report.{lines}
+use Rattle.model.proofs.StartLaws.{Filled, filled-none, filled-in-place, filled-done}
+use Rattle.model.proofs.ReportLaws.{lines-more}
+use Rattle.engine.specs.Stepped.{Due}
+use Rattle.engine.proofs.StepLaws.{stateOf, Going, begins, begun, unread, whole, due, roomy, unfit, lands, ends}
 use Rattle.engine.proofs.runs.run_steps.Statement.{statement}
 use Rattle.engine.proofs.runs.run_steps.Tie as tie
 
@@ -77,13 +77,14 @@ room c =
     roomy _ _ _ _ _ _ (here (m .before .before .before)) (m .before .before .loop2-test .taken) (m .read-step-of .result) (found m) (c .if1 .left) (pre .0) (pre .1 .0) (pre .1 .1 .0)
 
 loop-holds : tie.Need-loop-holds Inv-loop μ-loop Inv-loop2 μ-loop2 Inv-loop3 μ-loop3
-loop-holds c = let a = c .before .before .before .before .args in (search needs, filled-none (a .shape) (a .t2) (c .unmoved .result) (c .unmoved .ensures))
+loop-holds c = let a = c .before .before .before .before .args in (search needs, filled-none (a .shape) (a .t2) (c .idle .result) (c .idle .ensures))
 
 loop-again : tie.Need-loop-again Inv-loop μ-loop Inv-loop2 μ-loop2 Inv-loop3 μ-loop3
 loop-again c =
-    let l = c .before .before in
+    let l = c .before .before .before .before .before in
     let s = l .before .before .before .before .before in
-    (omega (arith, c .before .loop-test .taken), filled-more (s .args .shape) (s .args .t2) (l .loop .made) (l .loop .rows) (l .loop .inv .1) (omega (arith, c .before .loop-test .taken, s .pre .0 .few)) (c .before .loop-test .taken) (c .begin .ensures))
+    let t = c .before .before .before .before .loop-test .taken in
+    (omega (arith, t), filled-in-place (s .args .shape) (s .args .t2) (l .loop .made) (l .loop .rows) (l .loop .inv .1) (omega (arith, t, s .pre .0 .few)) t (c .before .before .before .begin .ensures))
 
 loop2-holds : tie.Need-loop2-holds Inv-loop μ-loop Inv-loop2 μ-loop2 Inv-loop3 μ-loop3
 loop2-holds c = begins _ _ _ (c .before .loop .inv .1 .long)
@@ -106,17 +107,21 @@ returns-2 c =
     let m = c .before .before .before .before .before .before .before in
     unfit _ _ _ _ _ _ (here (m .before .before .before)) (m .before .before .loop2-test .taken) (m .read-step-of .result) (found m) (c .before .before .before .before .before .if1 .left) _ (c .before .judge .ensures) (c .if2 .taken) (now (m .before .before .before .before .before .before .before .before .before .before .args .report))
 
-answer-step-requires : tie.Need-answer-step-requires Inv-loop μ-loop Inv-loop2 μ-loop2 Inv-loop3 μ-loop3
+answer-step-requires :
+    tie.Need-answer-step-requires Inv-loop μ-loop Inv-loop2 μ-loop2 Inv-loop3 μ-loop3
 answer-step-requires c κs = (room (c .before .before .before .before .before .before .before .before .before), fit (c .before .before .before .before .before .before .before .before .before))
 
-array-copy-out-row : tie.Need-array-copy-out-row Inv-loop μ-loop Inv-loop2 μ-loop2 Inv-loop3 μ-loop3
+array-copy-out-row :
+    tie.Need-array-copy-out-row Inv-loop μ-loop Inv-loop2 μ-loop2 Inv-loop3 μ-loop3
 array-copy-out-row c = omega (arith, fit (c .before .before .before .before .before .before .before .before .before .before), c .before .before .before .before .before .before .before .before .before .before .before .before .before .before .before .loop2 .inv .long)
 
-row-after-requires : tie.Need-row-after-requires Inv-loop μ-loop Inv-loop2 μ-loop2 Inv-loop3 μ-loop3
+row-after-requires :
+    tie.Need-row-after-requires Inv-loop μ-loop Inv-loop2 μ-loop2 Inv-loop3 μ-loop3
 row-after-requires c κs = (c .before .before .before .before .before .before .before .before .before .before .before .before .before .before .before .before .before .before .before .before .before .before .before .pre .0, (room (c .before .before .before .before .before .before .before .before .before .before .before), fit (c .before .before .before .before .before .before .before .before .before .before .before)))
 
-array-set-from-rows-2 : tie.Need-array-set-from-rows-2 Inv-loop μ-loop Inv-loop2 μ-loop2 Inv-loop3 μ-loop3
-array-set-from-rows-2 c = omega (arith, fit (c .before .before .before .before .before .before .before .before .before .before .before .before), c .before .before .before .before .before .before .before .before .before .before .before .before .before .before .before .before .before .loop2 .inv .long)
+array-set-from-rows :
+    tie.Need-array-set-from-rows Inv-loop μ-loop Inv-loop2 μ-loop2 Inv-loop3 μ-loop3
+array-set-from-rows c = omega (arith, fit (c .before .before .before .before .before .before .before .before .before .before .before .before), c .before .before .before .before .before .before .before .before .before .before .before .before .before .before .before .before .before .loop2 .inv .long)
 
 add-at : tie.Need-add-at Inv-loop μ-loop Inv-loop2 μ-loop2 Inv-loop3 μ-loop3
 add-at c = omega (arith, full (c .before .before .before .before .before .before .before .before .before .before .before .before), c .before .before .before .before .before .before .before .before .before .before .before .before .before .before .before .before .before .before .before .before .before .before .before .before .pre .1 .1 .0)
@@ -169,6 +174,8 @@ run-steps-spec =
     (λ c. search needs)
     (λ c. search needs)
     (λ c. search needs)
+    (λ c. search needs)
+    (λ c. search needs)
     loop-again
     loop2-holds
     (λ c. search needs)
@@ -188,7 +195,7 @@ run-steps-spec =
     array-copy-out-row
     row-after-requires
     (λ c. search needs)
-    array-set-from-rows-2
+    array-set-from-rows
     add-at
     loop2-less
     loop2-again
