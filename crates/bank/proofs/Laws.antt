@@ -11,9 +11,9 @@ use lib.Seq.{getD-set-same, getD-set-other}
 use borrow.Author.Tests.{lt-ltb, le-ltb}
 use Rattle.terms.specs.declared.ProcessNumber.{ProcessNumber}
 use Rattle.terms.specs.declared.SlotNumber.{SlotNumber}
+use Rattle.answers.specs.declared.ReadAnswer.{ReadAnswer}
+use Rattle.answers.specs.declared.WriteAnswer.{WriteAnswer}
 use Rattle.bank.specs.declared.Bank.{Bank}
-use Rattle.bank.specs.declared.ReadAnswer.{ReadAnswer}
-use Rattle.bank.specs.declared.WriteAnswer.{WriteAnswer}
 use Rattle.bank.specs.Registers.{unlimited, bankOf, pairOf, valueAt, deadlineAt, due, lateAt, afterRead, afterWrite}
 use Rattle.bank.specs.Granted.{Pair}
 use Rattle.bank.specs.Calls.{callRefusal, readRefusal, readOf, written, writeOf}

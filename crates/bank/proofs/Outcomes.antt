@@ -14,9 +14,9 @@ use borrow.Author.Tests.{eq-eqb, ne-eqb, lt-ltb, le-ltb}
 use Rattle.terms.specs.declared.ProcessNumber.{ProcessNumber}
 use Rattle.terms.specs.declared.SlotNumber.{SlotNumber}
 use Rattle.terms.proofs.RefusalLaws.{if-refused}
+use Rattle.answers.specs.declared.ReadAnswer.{ReadAnswer}
+use Rattle.answers.specs.declared.WriteAnswer.{WriteAnswer}
 use Rattle.bank.specs.declared.Bank.{Bank}
-use Rattle.bank.specs.declared.ReadAnswer.{ReadAnswer}
-use Rattle.bank.specs.declared.WriteAnswer.{WriteAnswer}
 use Rattle.bank.specs.Registers.{unlimited, bankOf, pairOf, due, afterRead, afterWrite}
 use Rattle.bank.specs.Granted.{Pair, Tick, Wait, Seen, Stored, readGranted, writeGranted}
 use Rattle.bank.specs.Calls.{callRefusal, readRefusal, readOf, written, writeOf}

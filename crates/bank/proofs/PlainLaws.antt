@@ -9,8 +9,8 @@ use lib.ListN.{length-replicate, getD-replicate}
 use borrow.Author.Tests.{le-ltb}
 use Rattle.terms.specs.declared.ProcessNumber.{ProcessNumber}
 use Rattle.terms.specs.declared.SlotNumber.{SlotNumber}
+use Rattle.answers.specs.declared.WriteAnswer.{WriteAnswer}
 use Rattle.bank.specs.declared.Bank.{Bank}
-use Rattle.bank.specs.declared.WriteAnswer.{WriteAnswer}
 use Rattle.bank.specs.Registers.{unlimited, freshBank, pairOf, valueAt}
 use Rattle.bank.specs.Calls.{callRefusal, writeOf}
 use Rattle.bank.specs.History.{Call, leaves, refusalAt, after, afterAll, Each, NotWrite, Limitless, Sized, Unbound, plain, plainAll}

@@ -13,16 +13,6 @@ use Rattle.bank.proofs.Bank.read.Kinds as read-kinds
 use Rattle.bank.proofs.Bank.read.Reads as read-reads
 use Rattle.bank.proofs.Bank.write.Kinds as write-kinds
 use Rattle.bank.proofs.Bank.write.Reads as write-reads
-use Rattle.bank.proofs.ReadAnswer.number.Kinds as read-number-kinds
-use Rattle.bank.proofs.ReadAnswer.number.Reads as read-number-reads
-use Rattle.bank.proofs.ReadAnswer.value.Kinds as read-value-kinds
-use Rattle.bank.proofs.ReadAnswer.value.Reads as read-value-reads
-use Rattle.bank.proofs.WriteAnswer.number.Kinds as write-number-kinds
-use Rattle.bank.proofs.WriteAnswer.number.Reads as write-number-reads
-use Rattle.bank.proofs.WriteAnswer.is_done.Kinds as is-done-kinds
-use Rattle.bank.proofs.WriteAnswer.is_done.Reads as is-done-reads
-use Rattle.bank.proofs.WriteAnswer.is_late.Kinds as is-late-kinds
-use Rattle.bank.proofs.WriteAnswer.is_late.Reads as is-late-reads
 use Rattle.bank.proofs.calls.call_refusal.Kinds as call-refusal-kinds
 use Rattle.bank.proofs.calls.call_refusal.Reads as call-refusal-reads
 use Rattle.bank.proofs.calls.read_refusal.Kinds as read-refusal-kinds
@@ -44,21 +34,6 @@ read-settles κs a x y u v p q = (p ∙ sym q, refl)
 
 pub write-settles : Settles 0 write-kinds.ps write-kinds.r write-reads.Post
 write-settles κs a x y u v p q = (p ∙ sym q, refl)
-
-pub read-number-settles : Settles 0 read-number-kinds.ps read-number-kinds.r read-number-reads.Post
-read-number-settles κs a x y u v p q = (p ∙ sym q, refl)
-
-pub read-value-settles : Settles 0 read-value-kinds.ps read-value-kinds.r read-value-reads.Post
-read-value-settles κs a x y u v p q = (p ∙ sym q, refl)
-
-pub write-number-settles : Settles 0 write-number-kinds.ps write-number-kinds.r write-number-reads.Post
-write-number-settles κs a x y u v p q = (p ∙ sym q, refl)
-
-pub is-done-settles : Settles 0 is-done-kinds.ps is-done-kinds.r is-done-reads.Post
-is-done-settles κs a x y u v p q = (p ∙ sym q, refl)
-
-pub is-late-settles : Settles 0 is-late-kinds.ps is-late-kinds.r is-late-reads.Post
-is-late-settles κs a x y u v p q = (p ∙ sym q, refl)
 
 pub call-refusal-settles : Settles 0 call-refusal-kinds.ps call-refusal-kinds.r call-refusal-reads.Post
 call-refusal-settles κs a x y u v p q = (p ∙ sym q, refl)

@@ -1,42 +1,17 @@
 -- A read and a write as a caller meets them: refusals 11, 17, 13, 18 in 01's order, and then the deadline rule.
 use Prim.Native.Nat.{ℕ}
-use mathlib.Core.Bool.{Bool, true, false, not, cond, _||_, _&&_}
+use mathlib.Core.Bool.{Bool, not, cond, _||_, _&&_}
 use lib.Dec.{eqb, leb, ltb}
 use Rattle.terms.specs.declared.ProcessNumber.{ProcessNumber}
 use Rattle.terms.specs.declared.SlotNumber.{SlotNumber}
 use Rattle.terms.specs.Limits.{mostProcesses, mostSlots, topTick}
 use Rattle.terms.specs.Refusal.{refuse, _then_, ifAccepted, outside}
+use Rattle.answers.specs.declared.ReadAnswer.{ReadAnswer}
+use Rattle.answers.specs.declared.WriteAnswer.{WriteAnswer}
 use Rattle.bank.specs.declared.Bank.{Bank}
-use Rattle.bank.specs.declared.ReadAnswer.{ReadAnswer}
-use Rattle.bank.specs.declared.WriteAnswer.{WriteAnswer}
 use Rattle.bank.specs.declared.ReadResult.{ReadResult}
 use Rattle.bank.specs.declared.WriteResult.{WriteResult}
 use Rattle.bank.specs.Registers.{unlimited, topWait, valueAt, lateAt, afterRead, afterWrite}
-
--- 01's number of each answer, 0 for an accepted call
-abbrev pub readNumber : ReadAnswer → ℕ
-readNumber (ReadAnswer.Value v) = 0
-readNumber (ReadAnswer.Refused k) = k
-
-abbrev pub writeNumber : WriteAnswer → ℕ
-writeNumber WriteAnswer.Done = 0
-writeNumber WriteAnswer.Late = 0
-writeNumber (WriteAnswer.Refused k) = k
-
--- the value read, 0 where the read was refused
-abbrev pub readValue : ReadAnswer → ℕ
-readValue (ReadAnswer.Value v) = v
-readValue (ReadAnswer.Refused k) = 0
-
-abbrev pub isDone : WriteAnswer → Bool
-isDone WriteAnswer.Done = true
-isDone WriteAnswer.Late = false
-isDone (WriteAnswer.Refused k) = false
-
-abbrev pub isLate : WriteAnswer → Bool
-isLate WriteAnswer.Done = false
-isLate WriteAnswer.Late = true
-isLate (WriteAnswer.Refused k) = false
 
 -- what a read and a write are refused for alike: 11, 17, 13
 unfoldable pub callRefusal : ℕ → ProcessNumber → SlotNumber → ℕ → ℕ

@@ -1,7 +1,7 @@
 // The C surface of the bench: numbers and slices only. include/ghindulza.h declares it for C.
 // Each function takes the call apart, hands it to the layer below and puts the answer out; it returns the number of the refusal, 0 for accepted.
+use answers::WriteAnswer;
 use bank::Bank;
-use bank::WriteAnswer;
 use bank::calls;
 use engine::runs;
 use terms::ProcessNumber;
