@@ -12,14 +12,16 @@ use lib.Seq.{getD-set-same, getD-set-other}
 use borrow.Author.Tests.{le-ltb}
 use Rattle.terms.specs.declared.ProcessNumber.{ProcessNumber}
 use Rattle.terms.specs.declared.SlotNumber.{SlotNumber}
+use Rattle.terms.specs.Limits.{unlimited}
+use Rattle.terms.specs.Ranges.{IsPair}
 use Rattle.answers.specs.declared.WriteAnswer.{WriteAnswer}
+use Rattle.refusals.specs.Refusals.{callRefusal, readRefusal}
+use Rattle.refusals.proofs.Accepted.{accepted-good, read-accepted-good}
 use Rattle.bank.specs.declared.Bank.{Bank}
-use Rattle.bank.specs.Registers.{unlimited, pairOf, valueAt, deadlineAt, due}
-use Rattle.bank.specs.Granted.{Pair}
-use Rattle.bank.specs.Calls.{callRefusal, readRefusal, readOf, written, writeOf}
+use Rattle.bank.specs.Registers.{pairOf, valueAt, deadlineAt, due}
+use Rattle.bank.specs.Calls.{readOf, written, writeOf}
 use Rattle.bank.specs.History.{Call, caller, register, leaves, after, afterAll, Each, Elsewhere, NotRead, NotWrite, Sized}
 use Rattle.bank.proofs.Pairs.{pair-below}
-use Rattle.bank.proofs.Accepted.{accepted-good, read-accepted-good}
 use Rattle.bank.proofs.Laws.{after-either, call-keeps-sizes, accepted-call-leaves-its-deadline, call-keeps-other-deadlines}
 use Rattle.bank.proofs.Laws.{call-keeps-value-unless-written, accepted-write-answers-by-the-deadline}
 
@@ -31,7 +33,7 @@ pub value-stays-until-written : (b : Bank) (ks : List Call) (c : SlotNumber) →
 value-stays-until-written b [] c h = refl
 value-stays-until-written b (k ∷ ks) c h = value-stays-until-written (after b k) ks c (h .1) ∙ call-keeps-value-unless-written b k c (h .0)
 
-module _ {i : ProcessNumber} {c : SlotNumber} (p : Pair i c) where
+module _ {i : ProcessNumber} {c : SlotNumber} (p : IsPair i c) where
   pub deadline-stays-while-others-call : (b : Bank) (ks : List Call) → Each (Elsewhere i c) ks → deadlineAt (afterAll b ks) i c ≡ deadlineAt b i c
   deadline-stays-while-others-call b [] h = refl
   deadline-stays-while-others-call b (k ∷ ks) h =
@@ -68,7 +70,7 @@ pub first-write-after-a-read-is-bound : (b : Bank) (i : ProcessNumber) (c : Slot
     → Sized b → readRefusal (b .last) i c t d ≡ 0 → Each (Elsewhere i c) ks → callRefusal (afterAll (readOf b i c t d .bank) ks .last) i c t′ ≡ 0
     → writeOf (afterAll (readOf b i c t d .bank) ks) i c t′ v .answer ≡ written (ltb (due t d) t′)
 first-write-after-a-read-is-bound b i c t d ks t′ v s h o h′ =
-    let p : Pair i c = accepted-good (b .last) i c t (read-accepted-good (b .last) i c t d h .0) .0 in
+    let p : IsPair i c = accepted-good (b .last) i c t (read-accepted-good (b .last) i c t d h .0) .0 in
     let bound : deadlineAt (afterAll (readOf b i c t d .bank) ks) i c ≡ due t d
     = deadline-stays-while-others-call p (readOf b i c t d .bank) ks o ∙ accepted-call-leaves-its-deadline b (Call.reading i c t d) s h in
     accepted-write-answers-by-the-deadline (afterAll (readOf b i c t d .bank) ks) i c t′ v h′ ∙ rw bound
@@ -78,7 +80,7 @@ pub later-writes-are-done : (b : Bank) (i : ProcessNumber) (c : SlotNumber) (t v
     → Sized b → callRefusal (b .last) i c t ≡ 0 → Each (NotRead i c) ks → callRefusal (afterAll (writeOf b i c t v .bank) ks .last) i c t′ ≡ 0
     → writeOf (afterAll (writeOf b i c t v .bank) ks) i c t′ v′ .answer ≡ WriteAnswer.Done
 later-writes-are-done b i c t v ks t′ v′ s h o h′ =
-    let p : Pair i c = accepted-good (b .last) i c t h .0 in
+    let p : IsPair i c = accepted-good (b .last) i c t h .0 in
     let freed : deadlineAt (writeOf b i c t v .bank) i c ≡ unlimited = accepted-call-leaves-its-deadline b (Call.writing i c t v) s h in
     unbound-write-is-done (afterAll (writeOf b i c t v .bank) ks) i c t′ v′ h′
     (unbound-until-it-reads p (writeOf b i c t v .bank) ks (call-keeps-sizes b (Call.writing i c t v) s) o freed)

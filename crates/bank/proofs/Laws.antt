@@ -11,15 +11,17 @@ use lib.Seq.{getD-set-same, getD-set-other}
 use borrow.Author.Tests.{lt-ltb, le-ltb}
 use Rattle.terms.specs.declared.ProcessNumber.{ProcessNumber}
 use Rattle.terms.specs.declared.SlotNumber.{SlotNumber}
+use Rattle.terms.specs.Limits.{unlimited}
+use Rattle.terms.specs.Ranges.{IsPair}
 use Rattle.answers.specs.declared.ReadAnswer.{ReadAnswer}
 use Rattle.answers.specs.declared.WriteAnswer.{WriteAnswer}
+use Rattle.refusals.specs.Refusals.{callRefusal, readRefusal}
+use Rattle.refusals.proofs.Accepted.{accepted-good, read-accepted-good}
 use Rattle.bank.specs.declared.Bank.{Bank}
-use Rattle.bank.specs.Registers.{unlimited, bankOf, pairOf, valueAt, deadlineAt, due, lateAt, afterRead, afterWrite}
-use Rattle.bank.specs.Granted.{Pair}
-use Rattle.bank.specs.Calls.{callRefusal, readRefusal, readOf, written, writeOf}
+use Rattle.bank.specs.Registers.{bankOf, pairOf, valueAt, deadlineAt, due, lateAt, afterRead, afterWrite}
+use Rattle.bank.specs.Calls.{readOf, written, writeOf}
 use Rattle.bank.specs.History.{Call, caller, register, tickOf, leaves, refusalAt, after, Elsewhere, NotWrite, Sized}
 use Rattle.bank.proofs.Pairs.{pair-below, pair-same}
-use Rattle.bank.proofs.Accepted.{accepted-good, read-accepted-good}
 use Rattle.bank.proofs.Outcomes.{read-refused, read-given, write-refused, write-given}
 
 -- The values that an accepted call leaves.
@@ -27,7 +29,7 @@ abbrev pub valuesAfter : Bank → Call → List ℕ
 valuesAfter b (Call.reading i c t d) = b .values
 valuesAfter b (Call.writing i c t v) = cond (lateAt b i c t) (b .values) (set (b .values) (c .0) v)
 
-pub accepted-call-has-a-pair : (last : ℕ) (k : Call) → refusalAt last k ≡ 0 → Pair (caller k) (register k)
+pub accepted-call-has-a-pair : (last : ℕ) (k : Call) → refusalAt last k ≡ 0 → IsPair (caller k) (register k)
 accepted-call-has-a-pair last (Call.reading i c t d) h = accepted-good last i c t (read-accepted-good last i c t d h .0) .0
 accepted-call-has-a-pair last (Call.writing i c t v) h = accepted-good last i c t h .0
 
@@ -83,7 +85,7 @@ module _ (b : Bank) (k : Call) where
       rw (accepted-call-result b k h)
       (getD-set-same (b .deadlines) (pairOf (caller k) (register k)) (leaves k) 0 (rw (s .deadlines) (pair-below (accepted-call-has-a-pair (b .last) k h))))
 
-  pub call-keeps-other-deadlines : {i : ProcessNumber} {c : SlotNumber} → Pair i c → Elsewhere i c k → deadlineAt (after b k) i c ≡ deadlineAt b i c
+  pub call-keeps-other-deadlines : {i : ProcessNumber} {c : SlotNumber} → IsPair i c → Elsewhere i c k → deadlineAt (after b k) i c ≡ deadlineAt b i c
   call-keeps-other-deadlines {i} {c} p o =
       after-either b k (λ (b′ : Bank). deadlineAt b′ i c ≡ deadlineAt b i c) refl
       (λ h. getD-set-other (b .deadlines) (pairOf (caller k) (register k)) (pairOf i c) (leaves k) 0

@@ -1,5 +1,3 @@
-pub mod Refused
-pub mod Accepted
 pub mod Outcomes
 pub mod Pairs
 pub mod Laws

@@ -14,13 +14,16 @@ use borrow.Author.Tests.{eq-eqb, ne-eqb, lt-ltb, le-ltb}
 use Rattle.terms.specs.declared.ProcessNumber.{ProcessNumber}
 use Rattle.terms.specs.declared.SlotNumber.{SlotNumber}
 use Rattle.terms.proofs.RefusalLaws.{if-refused}
+use Rattle.terms.specs.Limits.{unlimited}
+use Rattle.terms.specs.Ranges.{IsPair, IsTick, IsWait}
 use Rattle.answers.specs.declared.ReadAnswer.{ReadAnswer}
 use Rattle.answers.specs.declared.WriteAnswer.{WriteAnswer}
+use Rattle.refusals.specs.Refusals.{callRefusal, readRefusal}
+use Rattle.refusals.proofs.Accepted.{accepted-good, read-accepted-good}
 use Rattle.bank.specs.declared.Bank.{Bank}
-use Rattle.bank.specs.Registers.{unlimited, bankOf, pairOf, due, afterRead, afterWrite}
-use Rattle.bank.specs.Granted.{Pair, Tick, Wait, Seen, Stored, readGranted, writeGranted}
-use Rattle.bank.specs.Calls.{callRefusal, readRefusal, readOf, written, writeOf}
-use Rattle.bank.proofs.Accepted.{accepted-good, read-accepted-good}
+use Rattle.bank.specs.Registers.{bankOf, pairOf, due, afterRead, afterWrite}
+use Rattle.bank.specs.Granted.{Seen, Stored, readGranted, writeGranted}
+use Rattle.bank.specs.Calls.{readOf, written, writeOf}
 
 -- The deadline that a read sets.
 module _ (t d : ℕ) where
@@ -30,7 +33,7 @@ module _ (t d : ℕ) where
   pub due-limited : (d ≡ unlimited → ⊥) → t + d ≡ due t d
   due-limited e = rw (ne-eqb d unlimited e)
 
-  pub due-fits : Tick t → Wait d → (d ≡ unlimited → ⊥) → Fits w32 (t + d)
+  pub due-fits : IsTick t → IsWait d → (d ≡ unlimited → ⊥) → Fits w32 (t + d)
   due-fits h w e = omega (arith, w .limited e)
 
 -- The deadline rule over a bank of its parts, at the place p of the pair.
@@ -51,20 +54,20 @@ module _ (values deadlines : List ℕ) (last : ℕ) (i : ProcessNumber) (c : Slo
   write-late v h = rw (← at, lt-ltb (getD deadlines p 0) t h)
 
 -- What an accepted call has shown of its numbers.
-pub write-pair : (last : ℕ) (i : ProcessNumber) (c : SlotNumber) (t r : ℕ) → r ≡ callRefusal last i c t → r ≡ 0 → Pair i c
+pub write-pair : (last : ℕ) (i : ProcessNumber) (c : SlotNumber) (t r : ℕ) → r ≡ callRefusal last i c t → r ≡ 0 → IsPair i c
 write-pair last i c t r known h = accepted-good last i c t (sym known ∙ h) .0
 
 module _ (last : ℕ) (i : ProcessNumber) (c : SlotNumber) (t d r : ℕ) (known : r ≡ readRefusal last i c t d) (h : r ≡ 0) where
   call : callRefusal last i c t ≡ 0
   call = read-accepted-good last i c t d (sym known ∙ h) .0
 
-  pub read-pair : Pair i c
+  pub read-pair : IsPair i c
   read-pair = accepted-good last i c t call .0
 
-  pub read-tick : Tick t
+  pub read-tick : IsTick t
   read-tick = accepted-good last i c t call .1 .0
 
-  pub read-wait : Wait d
+  pub read-wait : IsWait d
   read-wait = read-accepted-good last i c t d (sym known ∙ h) .1
 
 -- A call of a bank b, by its refusal r: refused, or what the deadline rule gives.

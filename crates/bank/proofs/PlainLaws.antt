@@ -9,13 +9,15 @@ use lib.ListN.{length-replicate, getD-replicate}
 use borrow.Author.Tests.{le-ltb}
 use Rattle.terms.specs.declared.ProcessNumber.{ProcessNumber}
 use Rattle.terms.specs.declared.SlotNumber.{SlotNumber}
+use Rattle.terms.specs.Limits.{unlimited}
 use Rattle.answers.specs.declared.WriteAnswer.{WriteAnswer}
+use Rattle.refusals.specs.Refusals.{callRefusal}
+use Rattle.refusals.proofs.Accepted.{accepted-good}
 use Rattle.bank.specs.declared.Bank.{Bank}
-use Rattle.bank.specs.Registers.{unlimited, freshBank, pairOf, valueAt}
-use Rattle.bank.specs.Calls.{callRefusal, writeOf}
+use Rattle.bank.specs.Registers.{freshBank, pairOf, valueAt}
+use Rattle.bank.specs.Calls.{writeOf}
 use Rattle.bank.specs.History.{Call, leaves, refusalAt, after, afterAll, Each, NotWrite, Limitless, Sized, Unbound, plain, plainAll}
 use Rattle.bank.proofs.Pairs.{pair-below}
-use Rattle.bank.proofs.Accepted.{accepted-good}
 use Rattle.bank.proofs.Laws.{refused-call-changes-nothing, accepted-call-result, accepted-call-sets-last-tick, call-keeps-sizes}
 use Rattle.bank.proofs.Laws.{read-keeps-values, write-in-time-stores}
 use Rattle.bank.proofs.HistoryLaws.{call-keeps-unbound, unbound-write-is-done, value-stays-until-written}

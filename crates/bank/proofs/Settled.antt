@@ -13,10 +13,6 @@ use Rattle.bank.proofs.Bank.read.Kinds as read-kinds
 use Rattle.bank.proofs.Bank.read.Reads as read-reads
 use Rattle.bank.proofs.Bank.write.Kinds as write-kinds
 use Rattle.bank.proofs.Bank.write.Reads as write-reads
-use Rattle.bank.proofs.calls.call_refusal.Kinds as call-refusal-kinds
-use Rattle.bank.proofs.calls.call_refusal.Reads as call-refusal-reads
-use Rattle.bank.proofs.calls.read_refusal.Kinds as read-refusal-kinds
-use Rattle.bank.proofs.calls.read_refusal.Reads as read-refusal-reads
 use Rattle.bank.proofs.calls.read_in.Kinds as read-in-kinds
 use Rattle.bank.proofs.calls.read_in.Reads as read-in-reads
 use Rattle.bank.proofs.calls.write_in.Kinds as write-in-kinds
@@ -34,12 +30,6 @@ read-settles κs a x y u v p q = (p ∙ sym q, refl)
 
 pub write-settles : Settles 0 write-kinds.ps write-kinds.r write-reads.Post
 write-settles κs a x y u v p q = (p ∙ sym q, refl)
-
-pub call-refusal-settles : Settles 0 call-refusal-kinds.ps call-refusal-kinds.r call-refusal-reads.Post
-call-refusal-settles κs a x y u v p q = (p ∙ sym q, refl)
-
-pub read-refusal-settles : Settles 0 read-refusal-kinds.ps read-refusal-kinds.r read-refusal-reads.Post
-read-refusal-settles κs a x y u v p q = (p ∙ sym q, refl)
 
 pub read-in-settles : Settles 3 read-in-kinds.ps read-in-kinds.r read-in-reads.Post
 read-in-settles κs a x y u v p q =

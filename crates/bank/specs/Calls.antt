@@ -1,28 +1,16 @@
--- A read and a write as a caller meets them: refusals 11, 17, 13, 18 in 01's order, and then the deadline rule.
+-- A read and a write as a caller meets them: refused, with the bank as it was, or what the deadline rule gives.
 use Prim.Native.Nat.{ℕ}
-use mathlib.Core.Bool.{Bool, not, cond, _||_, _&&_}
-use lib.Dec.{eqb, leb, ltb}
+use mathlib.Core.Bool.{Bool, cond}
 use Rattle.terms.specs.declared.ProcessNumber.{ProcessNumber}
 use Rattle.terms.specs.declared.SlotNumber.{SlotNumber}
-use Rattle.terms.specs.Limits.{mostProcesses, mostSlots, topTick}
-use Rattle.terms.specs.Refusal.{refuse, _then_, ifAccepted, outside}
+use Rattle.terms.specs.Refusal.{ifAccepted}
 use Rattle.answers.specs.declared.ReadAnswer.{ReadAnswer}
 use Rattle.answers.specs.declared.WriteAnswer.{WriteAnswer}
+use Rattle.refusals.specs.Refusals.{callRefusal, readRefusal}
 use Rattle.bank.specs.declared.Bank.{Bank}
 use Rattle.bank.specs.declared.ReadResult.{ReadResult}
 use Rattle.bank.specs.declared.WriteResult.{WriteResult}
-use Rattle.bank.specs.Registers.{unlimited, topWait, valueAt, lateAt, afterRead, afterWrite}
-
--- what a read and a write are refused for alike: 11, 17, 13
-unfoldable pub callRefusal : ℕ → ProcessNumber → SlotNumber → ℕ → ℕ
-callRefusal last i c t =
-    refuse 11 (outside 1 mostProcesses (i .0))
-    then refuse 17 (leb mostSlots (c .0))
-    then refuse 13 (ltb topTick t || ltb t last)
-
--- and 18
-unfoldable pub readRefusal : ℕ → ProcessNumber → SlotNumber → ℕ → ℕ → ℕ
-readRefusal last i c t d = callRefusal last i c t then refuse 18 (ltb topWait d && not (eqb d unlimited))
+use Rattle.bank.specs.Registers.{valueAt, lateAt, afterRead, afterWrite}
 
 unfoldable pub readOf : Bank → ProcessNumber → SlotNumber → ℕ → ℕ → ReadResult
 readOf b i c t d =

@@ -5,11 +5,13 @@ use mathlib.Core.List.{List, [], _∷_}
 use lib.ListN.{length, set}
 use Rattle.terms.specs.declared.ProcessNumber.{ProcessNumber}
 use Rattle.terms.specs.declared.SlotNumber.{SlotNumber}
+use Rattle.terms.specs.Limits.{unlimited}
+use Rattle.terms.specs.Ranges.{IsPair}
 use Rattle.terms.specs.Refusal.{ifAccepted}
+use Rattle.refusals.specs.Refusals.{callRefusal, readRefusal}
 use Rattle.bank.specs.declared.Bank.{Bank}
-use Rattle.bank.specs.Registers.{unlimited, due, deadlineAt}
-use Rattle.bank.specs.Granted.{Pair}
-use Rattle.bank.specs.Calls.{callRefusal, readRefusal, readOf, writeOf}
+use Rattle.bank.specs.Registers.{due, deadlineAt}
+use Rattle.bank.specs.Calls.{readOf, writeOf}
 
 -- a read with its tick and its wait, a write with its tick and its value
 pub data Call : Type 0 where
@@ -72,7 +74,7 @@ pub record Sized (b : Bank) : Type 0 where
 
 -- no pair is bound
 abbrev pub Unbound : Bank → Type 0
-Unbound b = (i : ProcessNumber) (c : SlotNumber) → Pair i c → deadlineAt b i c ≡ unlimited
+Unbound b = (i : ProcessNumber) (c : SlotNumber) → IsPair i c → deadlineAt b i c ≡ unlimited
 
 -- a memory with no deadlines: a read leaves it, a write stores
 abbrev pub plain : List ℕ → Call → List ℕ

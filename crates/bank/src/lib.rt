@@ -7,6 +7,7 @@ use answers::ReadAnswer;
 use answers::WriteAnswer;
 use terms::ProcessNumber;
 use terms::SlotNumber;
+use terms::Wait;
 ghost use mathlib.Core.Path.{_≡_};
 ghost use Rattle.bank.specs.Registers.{freshBank};
 ghost use Rattle.bank.specs.Calls.{readOf, writeOf};
@@ -29,18 +30,13 @@ pub struct WriteResult {
 }
 
 impl Bank {
-    pub const TOP_WAIT: u32 = 65_535;
-
-    // As a deadline and as a wait: no tick with a wait reaches it, they end at 4,000,065,535.
-    pub const UNLIMITED: u32 = 4_294_967_295;
-
     // All values empty, every pair unbound, last tick 0.
     pub fn fresh() -> Self
         ensures { λ r. ⌜ r ≡ freshBank ⌝ }
     {
         Bank {
             values: [0; 8],
-            deadlines: [Self::UNLIMITED; 256],
+            deadlines: [Wait::UNLIMITED; 256],
             last: 0,
         }
     }

@@ -1,7 +1,7 @@
--- `bank::calls::tick_refusal` meets its contract, a law for each outcome of the test. Assumes nothing.
-use Rattle.bank.proofs.Refused.{refusals}
-use Rattle.bank.proofs.calls.tick_refusal.Statement.{statement}
-use Rattle.bank.proofs.calls.tick_refusal.Tie as tie
+-- `refusals::tick_refusal` meets its contract, a law for each outcome of the test. Assumes nothing.
+use Rattle.refusals.proofs.Refused.{refusals}
+use Rattle.refusals.proofs.tick_refusal.Statement.{statement}
+use Rattle.refusals.proofs.tick_refusal.Tie as tie
 
 returns : tie.Need-returns
 returns c = search refusals

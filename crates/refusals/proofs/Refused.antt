@@ -8,11 +8,10 @@ use borrow.Author.Needs.{needs}
 use borrow.Author.Tests.{eq-eqb, ne-eqb, lt-ltb, le-ltb, le-leb, lt-leb}
 use Rattle.terms.specs.declared.ProcessNumber.{ProcessNumber}
 use Rattle.terms.specs.declared.SlotNumber.{SlotNumber}
-use Rattle.terms.specs.Limits.{mostProcesses, mostSlots, topTick}
+use Rattle.terms.specs.Limits.{mostProcesses, mostSlots, topTick, topWait, unlimited}
 use Rattle.terms.specs.Refusal.{refuse, _then_, outside}
 use Rattle.terms.proofs.RefusalLaws.{then-stop}
-use Rattle.bank.specs.Registers.{unlimited, topWait}
-use Rattle.bank.specs.Calls.{callRefusal, readRefusal}
+use Rattle.refusals.specs.Refusals.{callRefusal, readRefusal}
 
 -- one test: x is below a range, above it, or in it; x is at least a bound, or below it
 module _ (k low high x : ℕ) where

@@ -1,8 +1,8 @@
--- `bank::calls::call_refusal` meets its contract: its lines are the table's. Assumes nothing.
-use Rattle.bank.proofs.Refused.{refusals}
+-- `refusals::call_refusal` meets its contract: its lines are the table's. Assumes nothing.
+use Rattle.refusals.proofs.Refused.{refusals}
 use borrow.Author.Needs.{needs}
-use Rattle.bank.proofs.calls.call_refusal.Statement.{statement}
-use Rattle.bank.proofs.calls.call_refusal.Tie as tie
+use Rattle.refusals.proofs.call_refusal.Statement.{statement}
+use Rattle.refusals.proofs.call_refusal.Tie as tie
 
 returns : tie.Need-returns
 returns c = search refusals
