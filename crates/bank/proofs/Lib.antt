@@ -1,8 +1,3 @@
-pub mod Refused
-pub mod Accepted
 pub mod Outcomes
 pub mod Pairs
-pub mod Laws
-pub mod HistoryLaws
-pub mod PlainLaws
 pub mod Settled

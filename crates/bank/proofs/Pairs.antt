@@ -5,13 +5,13 @@ use mathlib.Core.Path.{_≡_}
 use native.Mathlib.Omega.{arith}
 use Rattle.terms.specs.declared.ProcessNumber.{ProcessNumber}
 use Rattle.terms.specs.declared.SlotNumber.{SlotNumber}
+use Rattle.terms.specs.Ranges.{IsPair}
 use Rattle.bank.specs.Registers.{pairOf}
-use Rattle.bank.specs.Granted.{Pair}
 
-pub pair-below : {i : ProcessNumber} {c : SlotNumber} → Pair i c → pairOf i c < 256
+pub pair-below : {i : ProcessNumber} {c : SlotNumber} → IsPair i c → pairOf i c < 256
 pair-below p = omega arith
 
-pub pair-same : {i i′ : ProcessNumber} {c c′ : SlotNumber} → Pair i c → Pair i′ c′ → pairOf i c ≡ pairOf i′ c′ → (i ≡ i′) × (c ≡ c′)
+pub pair-same : {i i′ : ProcessNumber} {c c′ : SlotNumber} → IsPair i c → IsPair i′ c′ → pairOf i c ≡ pairOf i′ c′ → (i ≡ i′) × (c ≡ c′)
 pair-same {i} {i′} {c} {c′} p p′ e =
     let same-process : i .0 ≡ i′ .0 = omega arith in
     let same-slot : c .0 ≡ c′ .0 = omega arith in

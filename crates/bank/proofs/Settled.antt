@@ -1,36 +1,12 @@
--- Each promise settles its outcome: the answer and every lent number. (`Settles` has the meaning.)
+-- Each promise settles its outcome: what is returned and every lent number. (`Settles` has the meaning.)
 -- Assumes nothing.
 use mathlib.Core.Path.{_≡_, refl, sym, _∙_}
 use denote.Ref.{now}
 use Rattle.terms.proofs.Settles.{Settles}
-use Rattle.bank.specs.declared.ReadResult.{ReadResult}
-use Rattle.bank.specs.declared.WriteResult.{WriteResult}
 use Rattle.bank.specs.Registers.{bankOf}
 use Rattle.bank.specs.Granted.{Seen, Stored}
 use Rattle.bank.proofs.Bank.fresh.Kinds as fresh-kinds
 use Rattle.bank.proofs.Bank.fresh.Reads as fresh-reads
-use Rattle.bank.proofs.Bank.read.Kinds as read-kinds
-use Rattle.bank.proofs.Bank.read.Reads as read-reads
-use Rattle.bank.proofs.Bank.write.Kinds as write-kinds
-use Rattle.bank.proofs.Bank.write.Reads as write-reads
-use Rattle.bank.proofs.ReadAnswer.number.Kinds as read-number-kinds
-use Rattle.bank.proofs.ReadAnswer.number.Reads as read-number-reads
-use Rattle.bank.proofs.ReadAnswer.value.Kinds as read-value-kinds
-use Rattle.bank.proofs.ReadAnswer.value.Reads as read-value-reads
-use Rattle.bank.proofs.WriteAnswer.number.Kinds as write-number-kinds
-use Rattle.bank.proofs.WriteAnswer.number.Reads as write-number-reads
-use Rattle.bank.proofs.WriteAnswer.is_done.Kinds as is-done-kinds
-use Rattle.bank.proofs.WriteAnswer.is_done.Reads as is-done-reads
-use Rattle.bank.proofs.WriteAnswer.is_late.Kinds as is-late-kinds
-use Rattle.bank.proofs.WriteAnswer.is_late.Reads as is-late-reads
-use Rattle.bank.proofs.calls.call_refusal.Kinds as call-refusal-kinds
-use Rattle.bank.proofs.calls.call_refusal.Reads as call-refusal-reads
-use Rattle.bank.proofs.calls.read_refusal.Kinds as read-refusal-kinds
-use Rattle.bank.proofs.calls.read_refusal.Reads as read-refusal-reads
-use Rattle.bank.proofs.calls.read_in.Kinds as read-in-kinds
-use Rattle.bank.proofs.calls.read_in.Reads as read-in-reads
-use Rattle.bank.proofs.calls.write_in.Kinds as write-in-kinds
-use Rattle.bank.proofs.calls.write_in.Reads as write-in-reads
 use Rattle.bank.proofs.registers.read_granted.Kinds as read-granted-kinds
 use Rattle.bank.proofs.registers.read_granted.Reads as read-granted-reads
 use Rattle.bank.proofs.registers.write_granted.Kinds as write-granted-kinds
@@ -38,43 +14,6 @@ use Rattle.bank.proofs.registers.write_granted.Reads as write-granted-r
 
 pub fresh-settles : Settles 0 fresh-kinds.ps fresh-kinds.r fresh-reads.Post
 fresh-settles κs a x y u v p q = (p ∙ sym q, refl)
-
-pub read-settles : Settles 0 read-kinds.ps read-kinds.r read-reads.Post
-read-settles κs a x y u v p q = (p ∙ sym q, refl)
-
-pub write-settles : Settles 0 write-kinds.ps write-kinds.r write-reads.Post
-write-settles κs a x y u v p q = (p ∙ sym q, refl)
-
-pub read-number-settles : Settles 0 read-number-kinds.ps read-number-kinds.r read-number-reads.Post
-read-number-settles κs a x y u v p q = (p ∙ sym q, refl)
-
-pub read-value-settles : Settles 0 read-value-kinds.ps read-value-kinds.r read-value-reads.Post
-read-value-settles κs a x y u v p q = (p ∙ sym q, refl)
-
-pub write-number-settles : Settles 0 write-number-kinds.ps write-number-kinds.r write-number-reads.Post
-write-number-settles κs a x y u v p q = (p ∙ sym q, refl)
-
-pub is-done-settles : Settles 0 is-done-kinds.ps is-done-kinds.r is-done-reads.Post
-is-done-settles κs a x y u v p q = (p ∙ sym q, refl)
-
-pub is-late-settles : Settles 0 is-late-kinds.ps is-late-kinds.r is-late-reads.Post
-is-late-settles κs a x y u v p q = (p ∙ sym q, refl)
-
-pub call-refusal-settles : Settles 0 call-refusal-kinds.ps call-refusal-kinds.r call-refusal-reads.Post
-call-refusal-settles κs a x y u v p q = (p ∙ sym q, refl)
-
-pub read-refusal-settles : Settles 0 read-refusal-kinds.ps read-refusal-kinds.r read-refusal-reads.Post
-read-refusal-settles κs a x y u v p q = (p ∙ sym q, refl)
-
-pub read-in-settles : Settles 3 read-in-kinds.ps read-in-kinds.r read-in-reads.Post
-read-in-settles κs a x y u v p q =
-    let e : _≡_ {A = ReadResult} (record { bank = bankOf (now (a .0)) (u .1 .0) (u .1 .1 .0); answer = x }) (record { bank = bankOf (now (a .0)) (v .1 .0) (v .1 .1 .0); answer = y }) = p ∙ sym q in
-    ((λ k. e k .answer), (λ k. (tt, (e k .bank .deadlines, (e k .bank .last, (tt, (tt, (tt, (tt, tt)))))))))
-
-pub write-in-settles : Settles 3 write-in-kinds.ps write-in-kinds.r write-in-reads.Post
-write-in-settles κs a x y u v p q =
-    let e : _≡_ {A = WriteResult} (record { bank = bankOf (u .0) (u .1 .0) (u .1 .1 .0); answer = x }) (record { bank = bankOf (v .0) (v .1 .0) (v .1 .1 .0); answer = y }) = p ∙ sym q in
-    ((λ k. e k .answer), (λ k. (e k .bank .values, (e k .bank .deadlines, (e k .bank .last, (tt, (tt, (tt, (tt, tt)))))))))
 
 pub read-granted-settles : Settles 3 read-granted-kinds.ps read-granted-kinds.r read-granted-reads.Post
 read-granted-settles κs a x y u v p q =

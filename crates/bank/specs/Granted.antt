@@ -1,25 +1,10 @@
--- A read and a write whose numbers are good: what that means, and what such a call gives beside the bank that it leaves.
-use Prim.Native.Nat.{ℕ, _≤_, _<_}
-use mathlib.Core.Path.{_≡_}
+-- A read and a write whose numbers are in their ranges: what such a call gives beside the bank that it leaves.
+use Prim.Native.Nat.{ℕ}
 use mathlib.Core.Bool.{Bool}
 use Rattle.terms.specs.declared.ProcessNumber.{ProcessNumber}
 use Rattle.terms.specs.declared.SlotNumber.{SlotNumber}
-use Rattle.terms.specs.Limits.{mostProcesses, mostSlots, topTick}
 use Rattle.bank.specs.declared.Bank.{Bank}
-use Rattle.bank.specs.Registers.{unlimited, topWait, valueAt, lateAt, afterRead, afterWrite}
-
--- i is a process, and c a register
-pub record Pair (i : ProcessNumber) (c : SlotNumber) : Type 0 where
-  pub least : 1 ≤ i .0
-  pub most : i .0 ≤ mostProcesses
-  pub slot : c .0 < mostSlots
-
-pub record Tick (t : ℕ) : Type 0 where
-  pub top : t ≤ topTick
-
--- d is a wait: at most the top wait, unless it is unlimited
-pub record Wait (d : ℕ) : Type 0 where
-  pub limited : (d ≡ unlimited → ⊥) → d ≤ topWait
+use Rattle.bank.specs.Registers.{valueAt, lateAt, afterRead, afterWrite}
 
 -- the value that a read gives, or whether a write is late, and the bank afterwards
 pub record Seen : Type 0 where

@@ -6,15 +6,9 @@ use lib.Dec.{eqb, ltb}
 use lib.ListN.{getD, set, replicate}
 use Rattle.terms.specs.declared.ProcessNumber.{ProcessNumber}
 use Rattle.terms.specs.declared.SlotNumber.{SlotNumber}
+use Rattle.terms.specs.Limits.{unlimited}
 use Rattle.terms.specs.Numbers.{indexOf}
 use Rattle.bank.specs.declared.Bank.{Bank}
-
--- the deadline that no tick passes, and the wait that asks for it
-abbrev pub unlimited : ℕ
-unlimited = 4_294_967_295
-
-abbrev pub topWait : ℕ
-topWait = 65_535
 
 -- a bank of its parts
 abbrev pub bankOf : List ℕ → List ℕ → ℕ → Bank

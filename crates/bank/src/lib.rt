@@ -1,13 +1,10 @@
 // The bank of timed registers of document 01: 8 registers for 32 processes, with a deadline for each pair of process and register.
-// A bank goes in by value and comes back by value, beside the answer; `calls` has the same two calls over a bank whose parts are lent.
-pub mod calls;
+// `registers` has the deadline rule; the crate `calls` has a read and a write as a caller meets them.
 pub mod registers;
 
-use terms::ProcessNumber;
-use terms::SlotNumber;
+use terms::Wait;
 ghost use mathlib.Core.Path.{_≡_};
 ghost use Rattle.bank.specs.Registers.{freshBank};
-ghost use Rattle.bank.specs.Calls.{readNumber, readValue, writeNumber, isDone, isLate, readOf, writeOf};
 
 // The registers' values, the deadline of each pair at `(i - 1) * 8 + c`, and the tick of the last accepted call.
 pub struct Bank {
@@ -16,132 +13,15 @@ pub struct Bank {
     pub last: u32,
 }
 
-pub enum ReadAnswer {
-    Value(u32),
-    Refused(u32),
-}
-
-pub enum WriteAnswer {
-    Done,
-    Late,
-    Refused(u32),
-}
-
-pub struct ReadResult {
-    pub bank: Bank,
-    pub answer: ReadAnswer,
-}
-
-pub struct WriteResult {
-    pub bank: Bank,
-    pub answer: WriteAnswer,
-}
-
-impl ReadAnswer {
-    // The number of the refusal, 0 for none.
-    pub fn number(self) -> u32
-        ensures { λ r. ⌜ r ≡ readNumber self ⌝ }
-    {
-        match self {
-            ReadAnswer::Value(_) => 0,
-            ReadAnswer::Refused(k) => k,
-        }
-    }
-
-    // The value read, 0 where the read was refused.
-    pub fn value(self) -> u32
-        ensures { λ r. ⌜ r ≡ readValue self ⌝ }
-    {
-        match self {
-            ReadAnswer::Value(v) => v,
-            ReadAnswer::Refused(_) => 0,
-        }
-    }
-}
-
-impl WriteAnswer {
-    // The number of the refusal, 0 for none.
-    pub fn number(self) -> u32
-        ensures { λ r. ⌜ r ≡ writeNumber self ⌝ }
-    {
-        match self {
-            WriteAnswer::Done => 0,
-            WriteAnswer::Late => 0,
-            WriteAnswer::Refused(k) => k,
-        }
-    }
-
-    pub fn is_done(self) -> bool
-        ensures { λ r. ⌜ r ≡ isDone self ⌝ }
-    {
-        match self {
-            WriteAnswer::Done => true,
-            WriteAnswer::Late => false,
-            WriteAnswer::Refused(_) => false,
-        }
-    }
-
-    pub fn is_late(self) -> bool
-        ensures { λ r. ⌜ r ≡ isLate self ⌝ }
-    {
-        match self {
-            WriteAnswer::Done => false,
-            WriteAnswer::Late => true,
-            WriteAnswer::Refused(_) => false,
-        }
-    }
-}
-
 impl Bank {
-    pub const TOP_WAIT: u32 = 65_535;
-
-    // As a deadline and as a wait: no tick with a wait reaches it, they end at 4,000,065,535.
-    pub const UNLIMITED: u32 = 4_294_967_295;
-
     // All values empty, every pair unbound, last tick 0.
     pub fn fresh() -> Self
         ensures { λ r. ⌜ r ≡ freshBank ⌝ }
     {
         Bank {
             values: [0; 8],
-            deadlines: [Self::UNLIMITED; 256],
+            deadlines: [Wait::UNLIMITED; 256],
             last: 0,
-        }
-    }
-
-    // The value of register c; the deadline of i and c becomes t + d, or unlimited.
-    pub fn read(self, i: ProcessNumber, c: SlotNumber, t: u32, d: u32) -> ReadResult
-        ensures { λ r. ⌜ r ≡ readOf self i c t d ⌝ }
-    {
-        let values = self.values;
-        let mut deadlines = self.deadlines;
-        let mut last = self.last;
-        let answer = calls::read_in(&values, &mut deadlines, &mut last, i, c, t, d);
-        ReadResult {
-            bank: Bank {
-                values: values,
-                deadlines: deadlines,
-                last: last,
-            },
-            answer: answer,
-        }
-    }
-
-    // Up to the deadline of i and c: v is stored. Late: the value stays. Either way the deadline becomes unlimited.
-    pub fn write(self, i: ProcessNumber, c: SlotNumber, t: u32, v: u32) -> WriteResult
-        ensures { λ r. ⌜ r ≡ writeOf self i c t v ⌝ }
-    {
-        let mut values = self.values;
-        let mut deadlines = self.deadlines;
-        let mut last = self.last;
-        let answer = calls::write_in(&mut values, &mut deadlines, &mut last, i, c, t, v);
-        WriteResult {
-            bank: Bank {
-                values: values,
-                deadlines: deadlines,
-                last: last,
-            },
-            answer: answer,
         }
     }
 }

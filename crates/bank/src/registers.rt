@@ -1,14 +1,15 @@
-// The deadline rule, in place and without refusals: a read or a write whose numbers are known to be good. `calls` refuses the others.
-use crate::Bank;
+// The deadline rule, in place and without refusals: a read or a write whose numbers are known to be in range. The crate `calls` refuses the others.
 use terms::ProcessNumber;
 use terms::SlotNumber;
+use terms::Wait;
 ghost use mathlib.Core.Path.{_≡_};
+ghost use Rattle.terms.specs.Ranges.{IsPair, IsTick, IsWait};
 ghost use Rattle.bank.specs.Registers.{bankOf, pairOf, due};
-ghost use Rattle.bank.specs.Granted.{Pair, Tick, Wait, readGranted, writeGranted};
+ghost use Rattle.bank.specs.Granted.{readGranted, writeGranted};
 
 // The place of a pair among the deadlines.
 fn pair_of(i: ProcessNumber, c: SlotNumber) -> usize
-    requires { ⌜ Pair i c ⌝ }
+    requires { ⌜ IsPair i c ⌝ }
     ensures { λ r. ⌜ r ≡ pairOf i c ⌝ }
 {
     let row = (i.0 - 1) as usize;
@@ -17,12 +18,12 @@ fn pair_of(i: ProcessNumber, c: SlotNumber) -> usize
 
 // The deadline that a read at tick t with the wait d sets.
 fn due_at(t: u32, d: u32) -> u32
-    requires { ⌜ Tick t ⌝ }
-    requires { ⌜ Wait d ⌝ }
+    requires { ⌜ IsTick t ⌝ }
+    requires { ⌜ IsWait d ⌝ }
     ensures { λ r. ⌜ r ≡ due t d ⌝ }
 {
-    if d == Bank::UNLIMITED {
-        return Bank::UNLIMITED;
+    if d == Wait::UNLIMITED {
+        return Wait::UNLIMITED;
     }
     t + d
 }
@@ -37,9 +38,9 @@ pub fn read_granted(
     t: u32,
     d: u32,
 ) -> u32
-    requires { ⌜ Pair i c ⌝ }
-    requires { ⌜ Tick t ⌝ }
-    requires { ⌜ Wait d ⌝ }
+    requires { ⌜ IsPair i c ⌝ }
+    requires { ⌜ IsTick t ⌝ }
+    requires { ⌜ IsWait d ⌝ }
     ensures { λ r. ⌜ record { value = r; bank = bankOf (now (values .entry)) (now (deadlines .exit)) (now (last .exit)) }
         ≡ readGranted (bankOf (now (values .entry)) (now (deadlines .entry)) (now (last .entry))) i c t d ⌝ }
 {
@@ -60,13 +61,13 @@ pub fn write_granted(
     t: u32,
     v: u32,
 ) -> bool
-    requires { ⌜ Pair i c ⌝ }
+    requires { ⌜ IsPair i c ⌝ }
     ensures { λ r. ⌜ record { late = r; bank = bankOf (now (values .exit)) (now (deadlines .exit)) (now (last .exit)) }
         ≡ writeGranted (bankOf (now (values .entry)) (now (deadlines .entry)) (now (last .entry))) i c t v ⌝ }
 {
     let pair = pair_of(i, c);
     let deadline = deadlines[pair];
-    deadlines[pair] = Bank::UNLIMITED;
+    deadlines[pair] = Wait::UNLIMITED;
     *last = t;
     if t <= deadline {
         let slot = c.0 as usize;

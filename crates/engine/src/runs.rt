@@ -10,13 +10,13 @@ ghost use Rattle.model.specs.Report.{ranOf};
 ghost use Rattle.engine.specs.Stepped.{Due, sharedOf, stepAnswer, stepRow, ranFrom};
 use crate::memory;
 use crate::report;
-use bank::Bank;
 use model::Kind;
 use model::Outcome;
 use model::Reply;
 use model::Row;
 use model::Shape;
 use terms::Trace;
+use terms::Wait;
 use trace::Setup;
 use trace::Step;
 use trace::setups;
@@ -88,7 +88,7 @@ fn run_steps(shape: Shape, starts: [u8; 32], rest: &[u8], report: &mut [u32]) ->
         made = made + 1;
     }
     let mut values = [0u32; 8];
-    let mut deadlines = [Bank::UNLIMITED; 256];
+    let mut deadlines = [Wait::UNLIMITED; 256];
     let mut touched: u32 = 0;
     let mut flags = [false; 9];
     let mut last: u32 = 0;

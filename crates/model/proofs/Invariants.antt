@@ -8,9 +8,9 @@ use native.Mathlib.Omega.{arith}
 use lib.Dec.{T}
 use lib.ListN.{getD, replicate}
 use Rattle.terms.specs.declared.ProcessNumber.{ProcessNumber}
-use Rattle.terms.specs.Limits.{topTick}
+use Rattle.terms.specs.Limits.{topTick, unlimited}
 use Rattle.terms.specs.Numbers.{indexOf}
-use Rattle.bank.specs.Registers.{unlimited, freshBank}
+use Rattle.bank.specs.Registers.{freshBank}
 use Rattle.trace.specs.declared.Step.{Step}
 use Rattle.trace.specs.Step.{stepFields}
 use Rattle.model.specs.declared.Place.{Place}

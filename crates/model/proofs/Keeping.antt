@@ -9,10 +9,11 @@ use native.Mathlib.Nat.{add-zero, add-suc, suc-add, zero-add}
 use lib.Dec.{T, ltb, eqb}
 use lib.ListN.{length, getD, set, length-set, length-replicate, List·getD-eq-default}
 use borrow.Author.Tests.{ltb-true, ltb-false}
+use Rattle.terms.specs.Limits.{unlimited}
 use Rattle.terms.specs.declared.ProcessNumber.{ProcessNumber}
 use Rattle.terms.specs.Numbers.{indexOf}
 use Rattle.bank.specs.declared.Bank.{Bank}
-use Rattle.bank.specs.Registers.{unlimited, freshBank, lateAt, afterRead, afterWrite}
+use Rattle.bank.specs.Registers.{freshBank, lateAt, afterRead, afterWrite}
 use Rattle.trace.specs.declared.Step.{Step}
 use Rattle.model.specs.declared.Place.{Place}
 use Rattle.model.specs.declared.Shape.{Shape}

@@ -6,8 +6,8 @@ use mathlib.Core.Logic.{_≢_}
 use mathlib.Core.Bool.{Bool}
 use native.Mathlib.Omega.{arith}
 use lib.Dec.{T}
-use Rattle.bank.specs.Registers.{unlimited}
 use Rattle.model.specs.declared.Place.{Place}
+use Rattle.terms.specs.Limits.{unlimited}
 use Rattle.model.specs.Routine.{Routine, Slots, counted, crash, lockNext}
 use Rattle.model.proofs.Places.{imply, differ, inKind, putting, inside, claiming, holding}
 use Rattle.model.proofs.World.{Seat, Commons, World, At, Putting, Clock, wakeOf, Moves, put-all, moved, crashed, slotAt, wakeOn, ownOf}

@@ -10,11 +10,12 @@ use lib.Dec.{T, eqb}
 use lib.ListN.{length, getD, set}
 use lib.Seq.{getD-set-same, getD-set-other}
 use borrow.Author.Tests.{eqb-true, eqb-false, ltb-true, ltb-false, ne-eqb}
+use Rattle.terms.specs.Limits.{unlimited}
 use Rattle.terms.specs.declared.ProcessNumber.{ProcessNumber}
 use Rattle.terms.specs.declared.SlotNumber.{SlotNumber}
 use Rattle.terms.specs.Numbers.{indexOf}
 use Rattle.bank.specs.declared.Bank.{Bank}
-use Rattle.bank.specs.Registers.{unlimited, pairOf, due, lateAt, deadlineAt, afterRead, afterWrite}
+use Rattle.bank.specs.Registers.{pairOf, due, lateAt, deadlineAt, afterRead, afterWrite}
 use Rattle.model.specs.declared.Place.{Place}
 use Rattle.model.specs.declared.Ask.{Ask}
 use Rattle.model.specs.declared.Shared.{Shared}

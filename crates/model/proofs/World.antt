@@ -8,8 +8,8 @@ use mathlib.Core.Bool.{Bool, true, false, cond}
 use native.Mathlib.Omega.{arith}
 use lib.Dec.{T, eqb}
 use borrow.Author.Tests.{eqb-true, eqb-false, eq-eqb, ne-eqb}
-use Rattle.bank.specs.Registers.{unlimited}
 use Rattle.model.specs.declared.Place.{Place}
+use Rattle.terms.specs.Limits.{unlimited}
 use Rattle.model.specs.declared.Row.{Row}
 use Rattle.model.specs.Time.{wakeAt}
 use Rattle.model.proofs.Places.{putting}

@@ -4,8 +4,7 @@ use mathlib.Core.Path.{_≡_}
 use mathlib.Core.Logic.{_≢_}
 use mathlib.Core.List.{List}
 use lib.ListN.{length, getD}
-use Rattle.terms.specs.Limits.{mostProcesses, mostSlots, mostSteps}
-use Rattle.bank.specs.Registers.{unlimited, topWait}
+use Rattle.terms.specs.Limits.{mostProcesses, mostSlots, mostSteps, topWait, unlimited}
 use Rattle.model.specs.declared.Shape.{Shape}
 use Rattle.model.specs.declared.Row.{Row}
 use Rattle.model.specs.declared.Ask.{Ask}

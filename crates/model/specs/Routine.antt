@@ -3,8 +3,8 @@
 use Prim.Native.Nat.{ℕ, _+_, _%_}
 use mathlib.Core.Bool.{Bool, true, false, cond}
 use lib.Dec.{eqb, leb}
+use Rattle.terms.specs.Limits.{unlimited}
 use Rattle.terms.specs.Numbers.{slotOf}
-use Rattle.bank.specs.Registers.{unlimited}
 use Rattle.model.specs.declared.Place.{Place}
 use Rattle.model.specs.declared.Kind.{Kind}
 use Rattle.model.specs.declared.Shape.{Shape}

@@ -7,7 +7,6 @@ ghost use Rattle.model.specs.Bounds.{Sound, Room};
 ghost use Rattle.model.specs.Time.{wakeAt};
 ghost use Rattle.model.specs.Run;
 ghost use Rattle.model.specs.Routine.{routineOf, askAt, told, slots, lockNext, plainNext, fastNext, nextOf, scanAt, scanFrom, rowAfter, isDecided};
-use bank::Bank;
 use model::Ask;
 use model::Kind;
 use model::Local;
@@ -16,6 +15,7 @@ use model::Reply;
 use model::Row;
 use model::Shape;
 use terms::SlotNumber;
+use terms::Wait;
 use trace::Step;
 
 // ASK
@@ -30,7 +30,7 @@ pub fn ask(place: Place, delta: u32, r: Row) -> Ask
         Place::Look => Ask::Read(c, delta),
         Place::Put => Ask::Write(c, r.own),
         Place::Wait => Ask::Nothing,
-        Place::Check => Ask::Read(c, Bank::UNLIMITED),
+        Place::Check => Ask::Read(c, Wait::UNLIMITED),
         Place::Critical => Ask::Write(c, 0),
         Place::Flag => Ask::Raise(r.own),
         Place::Scan => Ask::Peek(x.scan),

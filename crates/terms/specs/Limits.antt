@@ -1,4 +1,4 @@
--- The limits that belong to the trace itself (01, "The trace"), as the associated constants of `Trace` have them.
+-- The limits that belong to the trace itself (01, "The trace"), and those of a wait, as the associated constants of `Trace` and `Wait` have them.
 use Prim.Native.Nat.{ℕ}
 
 abbrev pub mostProcesses : ℕ
@@ -13,3 +13,10 @@ mostSteps = 1_000_000
 
 abbrev pub topTick : ℕ
 topTick = 4_000_000_000
+
+abbrev pub topWait : ℕ
+topWait = 65_535
+
+-- the deadline that no tick passes, and the wait that asks for it
+abbrev pub unlimited : ℕ
+unlimited = 4_294_967_295

@@ -1,4 +1,4 @@
-// What every layer of the bench speaks in: process and slot numbers, the limits of a trace, numbers in bytes.
+// What every layer of the bench speaks in: process and slot numbers, the limits of a trace and of a wait, numbers in bytes.
 ghost use mathlib.Core.Path.{_≡_};
 ghost use mathlib.Core.List.{[], _∷_};
 ghost use Rattle.terms.specs.Little.{littleOf, littleBytes};
@@ -21,6 +21,16 @@ impl Trace {
     pub const STEPS: u32 = 1_000_000;
 
     pub const TOP_TICK: u32 = 4_000_000_000;
+}
+
+// A read's wait, and the bound Δ: 0 to `TOP`, for a read also `UNLIMITED`.
+pub struct Wait {}
+
+impl Wait {
+    pub const TOP: u32 = 65_535;
+
+    // As a deadline and as a wait: no tick with a wait reaches it, they end at 4,000,065,535.
+    pub const UNLIMITED: u32 = 4_294_967_295;
 }
 
 // The number in 2 bytes, the lowest first.

@@ -1,0 +1,24 @@
+-- `calls::write_in` meets its contract: refused, or what the deadline rule gives. Assumes nothing.
+use Rattle.calls.proofs.Outcomes.{outcomes}
+use borrow.Author.Needs.{needs}
+use Rattle.calls.proofs.write_in.Statement.{statement}
+use Rattle.calls.proofs.write_in.Tie as tie
+
+returns : tie.Need-returns
+returns c = search outcomes
+
+returns-2 : tie.Need-returns-2
+returns-2 c = search outcomes
+
+returns-3 : tie.Need-returns-3
+returns-3 c = search outcomes
+
+pub write-in-spec : {M : Type 1} → statement M
+write-in-spec =
+    tie.close
+    (tie.spec
+    (λ c κs. search needs)
+    returns
+    (λ c κs. search outcomes)
+    returns-2
+    returns-3)

@@ -1,0 +1,3 @@
+pub mod Refused
+pub mod Accepted
+pub mod Settled

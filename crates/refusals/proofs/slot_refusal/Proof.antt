@@ -1,0 +1,13 @@
+-- `refusals::slot_refusal` meets its contract, a law for each outcome of the test. Assumes nothing.
+use Rattle.refusals.proofs.Refused.{refusals}
+use Rattle.refusals.proofs.slot_refusal.Statement.{statement}
+use Rattle.refusals.proofs.slot_refusal.Tie as tie
+
+returns : tie.Need-returns
+returns c = search refusals
+
+returns-2 : tie.Need-returns-2
+returns-2 c = search refusals
+
+pub slot-refusal-spec : {M : Type 1} → statement M
+slot-refusal-spec = tie.close (tie.spec returns returns-2)

@@ -1,0 +1,10 @@
+-- `terms::u16_of` meets its contract: the sum is the definition's, and fits. Assumes nothing.
+use borrow.Author.Needs.{needs}
+use Rattle.terms.proofs.u16_of.Statement.{statement}
+use Rattle.terms.proofs.u16_of.Tie as tie
+
+returns : tie.Need-returns
+returns c = search needs
+
+pub u16-of-spec : {M : Type 1} → statement M
+u16-of-spec = tie.close (tie.spec (λ c. search needs) (λ c. search needs) returns)

@@ -1,0 +1,10 @@
+-- `terms::u32_bytes` meets its contract: the bytes are the definition's. Assumes nothing.
+use borrow.Author.Needs.{needs}
+use Rattle.terms.proofs.u32_bytes.Statement.{statement}
+use Rattle.terms.proofs.u32_bytes.Tie as tie
+
+returns : tie.Need-returns
+returns c = search needs
+
+pub u32-bytes-spec : {M : Type 1} → statement M
+u32-bytes-spec = tie.close (tie.spec (λ c. search needs) (λ c. search needs) (λ c. search needs) (λ c. search needs) returns)
