@@ -1,3 +1,6 @@
 pub mod Outcomes
 pub mod Pairs
+pub mod Laws
+pub mod HistoryLaws
+pub mod PlainLaws
 pub mod Settled

@@ -1,2 +1,4 @@
 pub mod Registers
+pub mod Calls
 pub mod Granted
+pub mod History

@@ -1,16 +1,32 @@
 // The bank of timed registers of document 01: 8 registers for 32 processes, with a deadline for each pair of process and register.
-// `registers` has the deadline rule; the crate `calls` has a read and a write as a caller meets them.
+// A bank goes in by value and comes back by value, beside the answer; `calls` has the same two calls over a bank whose parts are lent.
+pub mod calls;
 pub mod registers;
 
+use answers::ReadAnswer;
+use answers::WriteAnswer;
+use terms::ProcessNumber;
+use terms::SlotNumber;
 use terms::Wait;
 ghost use mathlib.Core.Path.{_≡_};
 ghost use Rattle.bank.specs.Registers.{freshBank};
+ghost use Rattle.bank.specs.Calls.{readOf, writeOf};
 
 // The registers' values, the deadline of each pair at `(i - 1) * 8 + c`, and the tick of the last accepted call.
 pub struct Bank {
     pub values: [u32; 8],
     pub deadlines: [u32; 256],
     pub last: u32,
+}
+
+pub struct ReadResult {
+    pub bank: Bank,
+    pub answer: ReadAnswer,
+}
+
+pub struct WriteResult {
+    pub bank: Bank,
+    pub answer: WriteAnswer,
 }
 
 impl Bank {
@@ -22,6 +38,42 @@ impl Bank {
             values: [0; 8],
             deadlines: [Wait::UNLIMITED; 256],
             last: 0,
+        }
+    }
+
+    // The value of register c; the deadline of i and c becomes t + d, or unlimited.
+    pub fn read(self, i: ProcessNumber, c: SlotNumber, t: u32, d: u32) -> ReadResult
+        ensures { λ r. ⌜ r ≡ readOf self i c t d ⌝ }
+    {
+        let values = self.values;
+        let mut deadlines = self.deadlines;
+        let mut last = self.last;
+        let answer = calls::read_in(&values, &mut deadlines, &mut last, i, c, t, d);
+        ReadResult {
+            bank: Bank {
+                values: values,
+                deadlines: deadlines,
+                last: last,
+            },
+            answer: answer,
+        }
+    }
+
+    // Up to the deadline of i and c: v is stored. Late: the value stays. Either way the deadline becomes unlimited.
+    pub fn write(self, i: ProcessNumber, c: SlotNumber, t: u32, v: u32) -> WriteResult
+        ensures { λ r. ⌜ r ≡ writeOf self i c t v ⌝ }
+    {
+        let mut values = self.values;
+        let mut deadlines = self.deadlines;
+        let mut last = self.last;
+        let answer = calls::write_in(&mut values, &mut deadlines, &mut last, i, c, t, v);
+        WriteResult {
+            bank: Bank {
+                values: values,
+                deadlines: deadlines,
+                last: last,
+            },
+            answer: answer,
         }
     }
 }

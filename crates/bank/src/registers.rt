@@ -1,4 +1,4 @@
-// The deadline rule, in place and without refusals: a read or a write whose numbers are known to be in range. The crate `calls` refuses the others.
+// The deadline rule, in place and without refusals: a read or a write whose numbers are known to be good. `calls` refuses the others.
 use terms::ProcessNumber;
 use terms::SlotNumber;
 use terms::Wait;

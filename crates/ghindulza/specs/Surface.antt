@@ -6,8 +6,8 @@ use Rattle.terms.specs.Numbers.{processOf}
 use Rattle.answers.specs.declared.WriteAnswer.{WriteAnswer}
 use Rattle.answers.specs.Answers.{readNumber, readValue, writeNumber}
 use Rattle.bank.specs.declared.Bank.{Bank}
-use Rattle.calls.specs.declared.ReadResult.{ReadResult}
-use Rattle.calls.specs.declared.WriteResult.{WriteResult}
+use Rattle.bank.specs.declared.ReadResult.{ReadResult}
+use Rattle.bank.specs.declared.WriteResult.{WriteResult}
 use Rattle.trace.specs.declared.Setup.{Setup}
 use Rattle.trace.specs.declared.Step.{Step}
 use Rattle.trace.specs.Setup.{setupRead, setupRest, restStart}

@@ -2,6 +2,7 @@
 // Each function takes the call apart, hands it to the layer below and puts the answer out; it returns the number of the refusal, 0 for accepted.
 use answers::WriteAnswer;
 use bank::Bank;
+use bank::calls;
 use engine::runs;
 use terms::ProcessNumber;
 use terms::SlotNumber;
@@ -13,7 +14,7 @@ ghost use lib.ListN.{length};
 ghost use Rattle.terms.specs.Limits.{mostProcesses};
 ghost use Rattle.terms.specs.Numbers.{processOf, slotOf};
 ghost use Rattle.bank.specs.Registers.{bankOf, freshBank};
-ghost use Rattle.calls.specs.Calls.{readOf, writeOf};
+ghost use Rattle.bank.specs.Calls.{readOf, writeOf};
 ghost use Rattle.trace.specs.Record.{Wrote};
 ghost use Rattle.trace.specs.Setup.{setupBytes, setupWriteRefusal};
 ghost use Rattle.trace.specs.Step.{stepRead, stepBytes, stepWriteRefusal};

@@ -9,9 +9,9 @@ use Rattle.terms.specs.Limits.{unlimited}
 use Rattle.terms.specs.Ranges.{IsPair}
 use Rattle.terms.specs.Refusal.{ifAccepted}
 use Rattle.refusals.specs.Refusals.{callRefusal, readRefusal}
 use Rattle.bank.specs.declared.Bank.{Bank}
 use Rattle.bank.specs.Registers.{due, deadlineAt}
-use Rattle.calls.specs.Calls.{readOf, writeOf}
+use Rattle.bank.specs.Calls.{readOf, writeOf}
 
 -- a read with its tick and its wait, a write with its tick and its value
 pub data Call : Type 0 where

@@ -17,13 +17,13 @@ use Rattle.terms.specs.Ranges.{IsPair}
 use Rattle.answers.specs.declared.WriteAnswer.{WriteAnswer}
 use Rattle.refusals.specs.Refusals.{callRefusal, readRefusal}
 use Rattle.refusals.proofs.Accepted.{accepted-good, read-accepted-good}
 use Rattle.bank.specs.declared.Bank.{Bank}
 use Rattle.bank.specs.Registers.{pairOf, valueAt, deadlineAt, due}
+use Rattle.bank.specs.Calls.{readOf, written, writeOf}
+use Rattle.bank.specs.History.{Call, caller, register, leaves, after, afterAll, Each, Elsewhere, NotRead, NotWrite, Sized}
 use Rattle.bank.proofs.Pairs.{pair-below}
-use Rattle.calls.specs.Calls.{readOf, written, writeOf}
-use Rattle.calls.specs.History.{Call, caller, register, leaves, after, afterAll, Each, Elsewhere, NotRead, NotWrite, Sized}
-use Rattle.calls.proofs.Laws.{after-either, call-keeps-sizes, accepted-call-leaves-its-deadline, call-keeps-other-deadlines}
-use Rattle.calls.proofs.Laws.{call-keeps-value-unless-written, accepted-write-answers-by-the-deadline}
+use Rattle.bank.proofs.Laws.{after-either, call-keeps-sizes, accepted-call-leaves-its-deadline, call-keeps-other-deadlines}
+use Rattle.bank.proofs.Laws.{call-keeps-value-unless-written, accepted-write-answers-by-the-deadline}
 
 pub run-keeps-sizes : (b : Bank) (ks : List Call) → Sized b → Sized (afterAll b ks)
 run-keeps-sizes b [] s = s

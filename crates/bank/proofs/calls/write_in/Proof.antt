@@ -1,8 +1,8 @@
--- `calls::write_in` meets its contract: refused, or what the deadline rule gives. Assumes nothing.
-use Rattle.calls.proofs.Outcomes.{outcomes}
+-- `bank::calls::write_in` meets its contract: refused, or what the deadline rule gives. Assumes nothing.
+use Rattle.bank.proofs.Outcomes.{outcomes}
 use borrow.Author.Needs.{needs}
-use Rattle.calls.proofs.write_in.Statement.{statement}
-use Rattle.calls.proofs.write_in.Tie as tie
+use Rattle.bank.proofs.calls.write_in.Statement.{statement}
+use Rattle.bank.proofs.calls.write_in.Tie as tie
 
 returns : tie.Need-returns
 returns c = search outcomes

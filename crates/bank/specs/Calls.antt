@@ -7,10 +7,10 @@ use Rattle.terms.specs.Refusal.{ifAccepted}
 use Rattle.answers.specs.declared.ReadAnswer.{ReadAnswer}
 use Rattle.answers.specs.declared.WriteAnswer.{WriteAnswer}
 use Rattle.refusals.specs.Refusals.{callRefusal, readRefusal}
 use Rattle.bank.specs.declared.Bank.{Bank}
+use Rattle.bank.specs.declared.ReadResult.{ReadResult}
+use Rattle.bank.specs.declared.WriteResult.{WriteResult}
 use Rattle.bank.specs.Registers.{valueAt, lateAt, afterRead, afterWrite}
-use Rattle.calls.specs.declared.ReadResult.{ReadResult}
-use Rattle.calls.specs.declared.WriteResult.{WriteResult}
 
 unfoldable pub readOf : Bank → ProcessNumber → SlotNumber → ℕ → ℕ → ReadResult
 readOf b i c t d =

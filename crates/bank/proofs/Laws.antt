@@ -17,12 +17,12 @@ use Rattle.answers.specs.declared.ReadAnswer.{ReadAnswer}
 use Rattle.answers.specs.declared.WriteAnswer.{WriteAnswer}
 use Rattle.refusals.specs.Refusals.{callRefusal, readRefusal}
 use Rattle.refusals.proofs.Accepted.{accepted-good, read-accepted-good}
 use Rattle.bank.specs.declared.Bank.{Bank}
 use Rattle.bank.specs.Registers.{bankOf, pairOf, valueAt, deadlineAt, due, lateAt, afterRead, afterWrite}
+use Rattle.bank.specs.Calls.{readOf, written, writeOf}
+use Rattle.bank.specs.History.{Call, caller, register, tickOf, leaves, refusalAt, after, Elsewhere, NotWrite, Sized}
 use Rattle.bank.proofs.Pairs.{pair-below, pair-same}
-use Rattle.calls.specs.Calls.{readOf, written, writeOf}
-use Rattle.calls.specs.History.{Call, caller, register, tickOf, leaves, refusalAt, after, Elsewhere, NotWrite, Sized}
-use Rattle.calls.proofs.Outcomes.{read-refused, read-given, write-refused, write-given}
+use Rattle.bank.proofs.Outcomes.{read-refused, read-given, write-refused, write-given}
 
 -- The values that an accepted call leaves.
 abbrev pub valuesAfter : Bank → Call → List ℕ

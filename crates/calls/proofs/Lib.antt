@@ -1,5 +1,0 @@
-pub mod Outcomes
-pub mod Laws
-pub mod HistoryLaws
-pub mod PlainLaws
-pub mod Settled
