@@ -29,7 +29,7 @@ compare: library program
 	@.ci/compare 40
 
 bench: library
-	@$(CARGO) run $(RUST) --example ratios
+	@for place in 0 16 32 48; do PLACE=$$place $(CARGO) run $(RUST) --example ratios || exit 1; done
 
 fmt:
 	@rt fmt

@@ -8,6 +8,10 @@
 //! stands behind the same C surface (`plain`), and small calls go through function
 //! pointers on both sides: neither is inlined into the loop, both pass and put out
 //! the same numbers. Lent areas are not cleared before a call.
+//!
+//! Where a loop begins within a line of the processor's cache changes its time by
+//! several parts in a hundred, on either side. `PLACE` (0, 16, 32 or 48, read when
+//! this is built) moves all code by so many bytes; `make bench` goes through the four.
 
 #[path = "../tests/common/mod.rs"]
 mod common;
@@ -23,6 +27,30 @@ use common::{
 };
 use ghindulza::sys;
 use independent::{Bank, UNLIMITED};
+
+/// How far the code is moved.
+const PLACE: usize = match option_env!("PLACE") {
+    Some(bytes) => place(bytes.as_bytes()),
+    None => 0,
+};
+
+const fn place(digits: &[u8]) -> usize {
+    let (mut number, mut at) = (0, 0);
+    while at < digits.len() {
+        number = 10 * number + (digits[at] - b'0') as usize;
+        at += 1;
+    }
+    number
+}
+
+// The linker lays this section in front of all other code.
+std::arch::global_asm!(
+    ".pushsection .text.unlikely, \"axR\", @progbits",
+    ".balign 64",
+    ".skip {place}",
+    ".popsection",
+    place = const PLACE,
+);
 
 const ROUNDS: usize = 40;
 const ROUND: Duration = Duration::from_millis(4);
@@ -77,6 +105,7 @@ struct Table {
 
 impl Table {
     fn new() -> Table {
+        println!("all code moved by {PLACE} bytes");
         println!(
             "{:<44} {:>6} {:>9} {:>9} {:>7} {:>9}",
             "case", "item", "proved", "plain", "ratio", "reading"
