@@ -3,20 +3,18 @@
 use answers::WriteAnswer;
 use bank::Bank;
 use engine::runs;
+use steps::Step;
 use terms::ProcessNumber;
 use terms::SlotNumber;
-use trace::Step;
-use trace::setups;
-use trace::steps;
 ghost use mathlib.Core.Path.{_≡_};
 ghost use lib.ListN.{length};
 ghost use Rattle.terms.specs.Limits.{mostProcesses};
 ghost use Rattle.terms.specs.Numbers.{processOf, slotOf};
 ghost use Rattle.bank.specs.Registers.{bankOf, freshBank};
 ghost use Rattle.calls.specs.Calls.{readOf, writeOf};
-ghost use Rattle.trace.specs.Record.{Wrote};
-ghost use Rattle.trace.specs.Setup.{setupBytes, setupWriteRefusal};
-ghost use Rattle.trace.specs.Step.{stepRead, stepBytes, stepWriteRefusal};
+ghost use Rattle.records.specs.Record.{Wrote};
+ghost use Rattle.setups.specs.Setup.{setupBytes, setupWriteRefusal};
+ghost use Rattle.steps.specs.Step.{stepRead, stepBytes, stepWriteRefusal};
 ghost use Rattle.model.specs.Report.{ranOf};
 ghost use Rattle.ghindulza.specs.Surface.{setupOut, stepOut, stepOf, answerCode, readOut, writeOut};
 

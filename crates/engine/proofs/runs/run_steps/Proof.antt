@@ -8,7 +8,7 @@ use Rattle.model.specs.Report.{lines}
 use Rattle.model.specs.Run.{rowOf, fresh}
 use Rattle.model.specs.Routine.{routineOf}
 use Rattle.model.specs.Bounds.{Room}
-use Rattle.trace.specs.Step.{stepRead}
+use Rattle.steps.specs.Step.{stepRead}
 use Rattle.bank.specs.Registers.{freshBank}
 use Rattle.terms.proofs.Parts.{part-to-end}
 use Rattle.terms.specs.Overlay.{overlay}
