@@ -8,11 +8,11 @@ use lib.ListN.{length, take, drop}
 use Rattle.terms.specs.Limits.{mostProcesses, mostSteps}
 use Rattle.terms.proofs.Parts.{part-to-end}
 use Rattle.terms.proofs.RefusalLaws.{if-accepted}
-use Rattle.trace.specs.declared.Setup.{Setup}
-use Rattle.trace.specs.declared.SetupRead.{SetupRead}
-use Rattle.trace.specs.Record.{byte}
-use Rattle.trace.specs.Setup.{setupRefusal, setupFields, setupRead}
-use Rattle.trace.proofs.SetupLaws.{setup-said}
+use Rattle.setups.specs.declared.Setup.{Setup}
+use Rattle.setups.specs.declared.SetupRead.{SetupRead}
+use Rattle.records.specs.Record.{byte}
+use Rattle.setups.specs.Setup.{setupRefusal, setupFields, setupRead}
+use Rattle.setups.proofs.SetupLaws.{setup-said}
 use Rattle.model.specs.declared.Shape.{Shape}
 use Rattle.model.specs.Bounds.{Bytes, Sound, Starts}
 use Rattle.model.specs.Run.{lineWidth, shapeOf, restOf}

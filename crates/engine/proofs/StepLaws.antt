@@ -14,10 +14,10 @@ use Rattle.terms.proofs.RefusalLaws.{if-accepted}
 use Rattle.bank.specs.declared.Bank.{Bank}
 use Rattle.bank.specs.Registers.{bankOf}
 use Rattle.bank.specs.Granted.{Seen, Stored}
-use Rattle.trace.specs.declared.Step.{Step}
-use Rattle.trace.specs.declared.StepRead.{StepRead}
-use Rattle.trace.specs.Step.{stepRefusal, stepFields, stepRead}
-use Rattle.trace.proofs.StepLaws.{step-said, AcceptedStep}
+use Rattle.steps.specs.declared.Step.{Step}
+use Rattle.steps.specs.declared.StepRead.{StepRead}
+use Rattle.steps.specs.Step.{stepRefusal, stepFields, stepRead}
+use Rattle.steps.proofs.StepLaws.{step-said, AcceptedStep}
 use Rattle.model.specs.declared.Shape.{Shape}
 use Rattle.model.specs.declared.Row.{Row}
 use Rattle.model.specs.declared.Ask.{Ask}

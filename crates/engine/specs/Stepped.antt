@@ -5,7 +5,7 @@ use mathlib.Core.List.{List}
 use Rattle.terms.specs.declared.ProcessNumber.{ProcessNumber}
 use Rattle.terms.specs.Limits.{mostProcesses, topTick}
 use Rattle.bank.specs.declared.Bank.{Bank}
-use Rattle.trace.specs.declared.Step.{Step}
+use Rattle.steps.specs.declared.Step.{Step}
 use Rattle.model.specs.declared.Shape.{Shape}
 use Rattle.model.specs.declared.Row.{Row}
 use Rattle.model.specs.declared.Ask.{Ask}

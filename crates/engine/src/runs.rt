@@ -15,12 +15,10 @@ use model::Outcome;
 use model::Reply;
 use model::Row;
 use model::Shape;
+use setups::Setup;
+use steps::Step;
 use terms::Trace;
 use terms::Wait;
-use trace::Setup;
-use trace::Step;
-use trace::setups;
-use trace::steps;
 
 // What memory answers to an accepted step of the process with row r, and what it then holds.
 fn answer_step(

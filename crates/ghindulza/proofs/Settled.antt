@@ -6,7 +6,7 @@ use mathlib.Core.List.{List}
 use Rattle.terms.proofs.Settles.{Settles}
 use Rattle.bank.specs.declared.Bank.{Bank}
 use Rattle.bank.specs.Registers.{bankOf}
-use Rattle.trace.specs.declared.Written.{Written}
+use Rattle.records.specs.declared.Written.{Written}
 use Rattle.model.specs.Report.{Ran}
 use Rattle.ghindulza.specs.Surface.{SetupOut, StepOut, BankOut}
 use Rattle.ghindulza.proofs.ghindulza_run.Kinds as run-kinds

@@ -7,9 +7,9 @@ use lib.ListN.{length, length-drop}
 use borrow.Author.Needs.{needs}
 use Rattle.terms.specs.Limits.{mostProcesses}
 use Rattle.terms.proofs.RefusalLaws.{if-refused}
-use Rattle.trace.specs.declared.SetupRead.{SetupRead}
-use Rattle.trace.specs.Setup.{setupRefusal, setupRead, setupRest, restStart}
-use Rattle.trace.proofs.SetupLaws.{setup-said}
+use Rattle.setups.specs.declared.SetupRead.{SetupRead}
+use Rattle.setups.specs.Setup.{setupRefusal, setupRead, setupRest, restStart}
+use Rattle.setups.proofs.SetupLaws.{setup-said}
 use Rattle.ghindulza.specs.Surface.{setupNumbers, setupOut}
 
 module _ (s : List ℕ) (r : SetupRead) (known : r ≡ setupRead s) where

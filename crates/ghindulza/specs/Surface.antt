@@ -8,11 +8,11 @@ use Rattle.answers.specs.Answers.{readNumber, readValue, writeNumber}
 use Rattle.bank.specs.declared.Bank.{Bank}
 use Rattle.bank.specs.declared.ReadResult.{ReadResult}
 use Rattle.bank.specs.declared.WriteResult.{WriteResult}
-use Rattle.trace.specs.declared.Setup.{Setup}
-use Rattle.trace.specs.declared.Step.{Step}
-use Rattle.trace.specs.Setup.{setupRead, setupRest, restStart}
-use Rattle.trace.specs.declared.SetupRead.{SetupRead}
-use Rattle.trace.specs.declared.StepRead.{StepRead}
+use Rattle.setups.specs.declared.Setup.{Setup}
+use Rattle.steps.specs.declared.Step.{Step}
+use Rattle.setups.specs.Setup.{setupRead, setupRest, restStart}
+use Rattle.setups.specs.declared.SetupRead.{SetupRead}
+use Rattle.steps.specs.declared.StepRead.{StepRead}
 
 -- kind, n, ℓ or b, byte 5 (0 in every accepted setup), Δ
 abbrev pub setupNumbers : Setup → List ℕ

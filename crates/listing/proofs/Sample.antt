@@ -3,8 +3,8 @@
 use mathlib.Core.Path.{_≡_, refl}
 use mathlib.Core.List.{[], _∷_, _++_}
 use Rattle.bank.specs.Registers.{freshBank, afterRead, afterWrite}
-use Rattle.trace.specs.Setup.{badKind, badSize, badStart, setupRefusal}
-use Rattle.trace.specs.Step.{stepRefusal}
+use Rattle.setups.specs.Setup.{badKind, badSize, badStart, setupRefusal}
+use Rattle.steps.specs.Step.{stepRefusal}
 use Rattle.model.specs.Run.{startRows, fresh, moveAt, stop, after, judge, recordRefusal, advance, reach, records, runRefusal, runOf}
 use Rattle.model.specs.Report.{line, lines, reportOf, outcomeOf, ranOf}
 use Rattle.model.specs.Traces.{plain, _moves_}

@@ -12,8 +12,8 @@ use lib.Seq.{take-append-seam}
 use Rattle.terms.specs.Limits.{mostProcesses, mostSteps}
 use Rattle.terms.specs.Refusal.{ifAccepted}
 use Rattle.terms.proofs.RefusalLaws.{passed, if-accepted, if-refused}
-use Rattle.trace.specs.Record.{byte}
-use Rattle.trace.specs.Setup.{setupRefusal}
+use Rattle.records.specs.Record.{byte}
+use Rattle.setups.specs.Setup.{setupRefusal}
 use Rattle.model.specs.Run.{Progress, Progress.stopped, lineWidth, restOf, records, reached, runRefusal, runOf}
 use Rattle.model.specs.Report.{Ran, outcomeOf, ranOf}
 use Rattle.listing.specs.Put.{spliced, Put}

@@ -8,7 +8,7 @@ use lib.ListN.{length, take, getD, replicate}
 use Rattle.terms.specs.Limits.{mostProcesses}
 use Rattle.terms.specs.Refusal.{ifAccepted}
 use Rattle.terms.specs.Overlay.{overlay}
-use Rattle.trace.specs.Record.{byte}
+use Rattle.records.specs.Record.{byte}
 use Rattle.model.specs.Run.{lineWidth}
 use Rattle.model.specs.Report.{Ran, ranOf}
 

@@ -3,7 +3,7 @@ ghost use mathlib.Core.Path.{_≡_};
 ghost use mathlib.Core.List.{[], _∷_, _++_};
 ghost use Prim.Native.Nat.{_+_, _*_, _≤_, _<_};
 ghost use lib.ListN.{length};
-ghost use Rattle.trace.specs.Record.{byte};
+ghost use Rattle.records.specs.Record.{byte};
 ghost use Rattle.listing.specs.Put.{Put};
 ghost use Rattle.listing.specs.Text.{decimal, headLine, refusedLine, processLine, processLines, ranText, Listed};
 ghost use Rattle.model.specs.Run.{lineWidth};

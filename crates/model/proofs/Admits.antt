@@ -9,9 +9,9 @@ use borrow.Author.Tests.{ltb-false, le-ltb}
 use Rattle.terms.specs.Limits.{topTick}
 use Rattle.terms.specs.Numbers.{indexOf}
 use Rattle.terms.proofs.RefusalLaws.{then-both, passed, refuse-false}
-use Rattle.trace.specs.declared.Step.{Step}
-use Rattle.trace.specs.Step.{stepRefusal, stepFields}
-use Rattle.trace.proofs.StepLaws.{step-said}
+use Rattle.steps.specs.declared.Step.{Step}
+use Rattle.steps.specs.Step.{stepRefusal, stepFields}
+use Rattle.steps.proofs.StepLaws.{step-said}
 use Rattle.model.specs.declared.Shape.{Shape}
 use Rattle.model.specs.declared.State.{State}
 use Rattle.model.specs.Time.{waiting}

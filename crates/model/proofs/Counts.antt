@@ -8,8 +8,8 @@ use mathlib.Core.List.{List}
 use native.Mathlib.Omega.{arith}
 use borrow.Author.Tests.{eq-eqb, ne-eqb}
 use Rattle.terms.specs.Numbers.{processOf, indexOf}
-use Rattle.trace.specs.declared.Step.{Step}
-use Rattle.trace.specs.Setup.{setupFields}
+use Rattle.steps.specs.declared.Step.{Step}
+use Rattle.setups.specs.Setup.{setupFields}
 use Rattle.model.specs.declared.Place.{Place}
 use Rattle.model.specs.declared.Shape.{Shape}
 use Rattle.model.specs.declared.Row.{Row}

@@ -11,10 +11,10 @@ use lib.ListN.{length, take, drop, length-take}
 use lib.Seq.{getD-take, take-take, take-nil, drop-nil}
 use borrow.Author.Tests.{lt-ltb, le-ltb, ltb-true, ltb-false}
 use Rattle.terms.specs.Refusal.{_then_}
-use Rattle.trace.specs.Record.{byte}
-use Rattle.trace.specs.Setup.{setupRefusal, setupFields, startBytes}
-use Rattle.trace.specs.Step.{stepRefusal, stepFields}
-use Rattle.trace.specs.declared.Step.{Step}
+use Rattle.records.specs.Record.{byte}
+use Rattle.setups.specs.Setup.{setupRefusal, setupFields, startBytes}
+use Rattle.steps.specs.Step.{stepRefusal, stepFields}
+use Rattle.steps.specs.declared.Step.{Step}
 use Rattle.model.specs.declared.Shape.{Shape}
 use Rattle.model.specs.declared.State.{State}
 use Rattle.model.specs.Run.{Progress, Progress.going, Progress.stopped, rowOf, judge, recordRefusal, advance, reach, restOf}

@@ -11,8 +11,8 @@ use Rattle.terms.specs.declared.ProcessNumber.{ProcessNumber}
 use Rattle.terms.specs.Limits.{topTick, unlimited}
 use Rattle.terms.specs.Numbers.{indexOf}
 use Rattle.bank.specs.Registers.{freshBank}
-use Rattle.trace.specs.declared.Step.{Step}
-use Rattle.trace.specs.Step.{stepFields}
+use Rattle.steps.specs.declared.Step.{Step}
+use Rattle.steps.specs.Step.{stepFields}
 use Rattle.model.specs.declared.Place.{Place}
 use Rattle.model.specs.declared.Shape.{Shape}
 use Rattle.model.specs.declared.Row.{Row}

@@ -11,9 +11,9 @@ use lib.Seq.{drop-drop}
 use Rattle.terms.specs.Limits.{mostProcesses}
 use Rattle.terms.specs.Overlay.{overlay}
 use Rattle.terms.specs.Refusal.{ifAccepted}
-use Rattle.trace.specs.declared.Setup.{Setup}
-use Rattle.trace.specs.Record.{byte}
-use Rattle.trace.specs.Setup.{setupFields}
+use Rattle.setups.specs.declared.Setup.{Setup}
+use Rattle.records.specs.Record.{byte}
+use Rattle.setups.specs.Setup.{setupFields}
 use Rattle.model.specs.declared.Shape.{Shape}
 use Rattle.model.specs.declared.State.{State}
 use Rattle.model.specs.Routine.{routine}

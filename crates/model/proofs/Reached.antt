@@ -8,9 +8,9 @@ use lib.Dec.{T}
 use lib.ListN.{length, getD}
 use Rattle.terms.specs.Limits.{mostProcesses}
 use Rattle.terms.specs.Refusal.{ifAccepted}
-use Rattle.trace.specs.Record.{byte}
-use Rattle.trace.specs.Setup.{setupFields}
-use Rattle.trace.proofs.SetupLaws.{setup-said, place-at}
+use Rattle.records.specs.Record.{byte}
+use Rattle.setups.specs.Setup.{setupFields}
+use Rattle.setups.proofs.SetupLaws.{setup-said, place-at}
 use Rattle.model.specs.declared.State.{State}
 use Rattle.model.specs.Bounds.{Bytes}
 use Rattle.model.specs.Run.{rowAt, restOf, records, reached, runRefusal, runOf, Progress.going, Progress.stopped}

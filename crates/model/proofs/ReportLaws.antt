@@ -14,8 +14,8 @@ use Rattle.terms.specs.Limits.{mostProcesses, mostSteps}
 use Rattle.terms.specs.Overlay.{overlay}
 use Rattle.terms.specs.Refusal.{refuse, _then_}
 use Rattle.terms.proofs.RefusalLaws.{then-on, then-stop}
-use Rattle.trace.specs.Record.{byte}
-use Rattle.trace.specs.Setup.{setupRefusal, setupFields}
+use Rattle.records.specs.Record.{byte}
+use Rattle.setups.specs.Setup.{setupRefusal, setupFields}
 use Rattle.model.specs.declared.Shape.{Shape}
 use Rattle.model.specs.declared.Row.{Row}
 use Rattle.model.specs.Routine.{Routine}

@@ -9,8 +9,8 @@ use native.Mathlib.Omega.{arith}
 use lib.ListN.{length, drop, length-drop}
 use Rattle.terms.specs.Refusal.{ifAccepted}
 use Rattle.terms.proofs.RefusalLaws.{then-on, then-stop, then-both, if-accepted, if-refused}
-use Rattle.trace.specs.Step.{stepRefusal, stepFields}
-use Rattle.trace.proofs.StepLaws.{step-said}
+use Rattle.steps.specs.Step.{stepRefusal, stepFields}
+use Rattle.steps.proofs.StepLaws.{step-said}
 use Rattle.model.specs.declared.Shape.{Shape}
 use Rattle.model.specs.declared.State.{State}
 use Rattle.model.specs.Run.{Progress, Progress.going, Progress.stopped, rowOf, after, judge, recordRefusal, advance, reach, records, restOf, runRefusal, reached, runOf}

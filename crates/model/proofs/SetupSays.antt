@@ -10,9 +10,9 @@ use lib.ListN.{length}
 use borrow.Author.Tests.{eqb-true, eqb-false, ltb-false, le-ltb}
 use Rattle.terms.specs.Limits.{mostProcesses, mostSteps}
 use Rattle.terms.proofs.RefusalLaws.{passed}
-use Rattle.trace.specs.Record.{byte}
-use Rattle.trace.specs.Setup.{badStart, startBytes, setupRefusal, setupFields}
-use Rattle.trace.proofs.SetupLaws.{AcceptedSetup, setup-said, start-good, slot-said, proposal-said, start-count, place-at, length-places}
+use Rattle.records.specs.Record.{byte}
+use Rattle.setups.specs.Setup.{badStart, startBytes, setupRefusal, setupFields}
+use Rattle.setups.proofs.SetupLaws.{AcceptedSetup, setup-said, start-good, slot-said, proposal-said, start-count, place-at, length-places}
 use Rattle.model.specs.declared.Kind.{Kind}
 use Rattle.model.specs.Routine.{routineOf}
 use Rattle.model.specs.Bounds.{Bytes, Sound, startOk, Starts}

@@ -11,9 +11,9 @@ use lib.Dec.{T, eqb}
 use lib.ListN.{length, getD, drop, List·getD-append}
 use lib.Seq.{getD-append-add}
 use Rattle.terms.specs.Refusal.{ifAccepted}
-use Rattle.trace.specs.Record.{byte}
-use Rattle.trace.specs.Setup.{setupFields}
-use Rattle.trace.specs.Step.{stepFields}
+use Rattle.records.specs.Record.{byte}
+use Rattle.setups.specs.Setup.{setupFields}
+use Rattle.steps.specs.Step.{stepFields}
 use Rattle.model.specs.declared.Place.{Place}
 use Rattle.model.specs.declared.Shape.{Shape}
 use Rattle.model.specs.declared.Row.{Row}

@@ -12,7 +12,7 @@ use Rattle.terms.specs.declared.ProcessNumber.{ProcessNumber}
 use Rattle.terms.specs.Limits.{topTick}
 use Rattle.terms.specs.Numbers.{slotOf}
 use Rattle.bank.specs.Registers.{valueAt, lateAt}
-use Rattle.trace.specs.Record.{byte}
+use Rattle.records.specs.Record.{byte}
 use Rattle.model.specs.declared.Place.{Place}
 use Rattle.model.specs.declared.State.{State}
 use Rattle.model.specs.Bounds.{Bytes}

@@ -9,7 +9,7 @@ use native.Mathlib.Decide.{ℕ-discrete}
 use lib.ListN.{length, getD, set}
 use lib.Seq.{getD-set-same, getD-set-other}
 use Rattle.terms.specs.Numbers.{indexOf}
-use Rattle.trace.specs.declared.Step.{Step}
+use Rattle.steps.specs.declared.Step.{Step}
 use Rattle.model.specs.declared.Shape.{Shape}
 use Rattle.model.specs.declared.Row.{Row}
 use Rattle.model.specs.declared.State.{State}

@@ -11,9 +11,9 @@ use borrow.Author.Tests.{ltb-true}
 use Rattle.terms.specs.Limits.{mostProcesses}
 use Rattle.terms.specs.Numbers.{slotOf}
 use Rattle.bank.specs.Registers.{freshBank, afterRead, afterWrite, valueAt}
-use Rattle.trace.specs.Record.{byte}
-use Rattle.trace.specs.Setup.{badKind, badSize, badStart, setupRefusal}
-use Rattle.trace.specs.Step.{stepRefusal}
+use Rattle.records.specs.Record.{byte}
+use Rattle.setups.specs.Setup.{badKind, badSize, badStart, setupRefusal}
+use Rattle.steps.specs.Step.{stepRefusal}
 use Rattle.model.specs.declared.State.{State}
 use Rattle.model.specs.Bounds.{Bytes}
 use Rattle.model.specs.Run.{rowAt, startRows, fresh, moveAt, stop, after, judge, recordRefusal, advance, reach, records, startOf, reached, runRefusal, runOf, Progress, Progress.going, Progress.stopped}

@@ -7,8 +7,8 @@ use mathlib.Core.List.{List}
 use lib.ListN.{getD}
 use Rattle.terms.specs.Limits.{mostProcesses}
 use Rattle.terms.specs.Numbers.{processOf}
-use Rattle.trace.specs.Record.{byte}
-use Rattle.trace.specs.Setup.{setupRefusal, setupFields}
+use Rattle.records.specs.Record.{byte}
+use Rattle.setups.specs.Setup.{setupRefusal, setupFields}
 use Rattle.model.specs.declared.Place.{Place}
 use Rattle.model.specs.declared.Shape.{Shape}
 use Rattle.model.specs.declared.Row.{Row}

@@ -5,8 +5,8 @@ use mathlib.Core.List.{List}
 use lib.Dec.{eqb}
 use lib.ListN.{drop}
 use Rattle.terms.specs.declared.ProcessNumber.{ProcessNumber}
-use Rattle.trace.specs.declared.Step.{Step}
-use Rattle.trace.specs.Step.{stepFields}
+use Rattle.steps.specs.declared.Step.{Step}
+use Rattle.steps.specs.Step.{stepFields}
 use Rattle.model.specs.declared.Shape.{Shape}
 use Rattle.model.specs.declared.Reply.{Reply}
 use Rattle.model.specs.declared.State.{State}

@@ -9,11 +9,11 @@ use Rattle.terms.specs.Limits.{mostProcesses, mostSteps}
 use Rattle.terms.specs.Numbers.{indexOf}
 use Rattle.terms.specs.Refusal.{refuse, _then_, ifAccepted}
 use Rattle.bank.specs.Registers.{freshBank}
-use Rattle.trace.specs.declared.Setup.{Setup}
-use Rattle.trace.specs.declared.Step.{Step}
-use Rattle.trace.specs.Record.{byte}
-use Rattle.trace.specs.Setup.{setupRefusal, setupFields}
-use Rattle.trace.specs.Step.{stepRefusal, stepFields}
+use Rattle.setups.specs.declared.Setup.{Setup}
+use Rattle.steps.specs.declared.Step.{Step}
+use Rattle.records.specs.Record.{byte}
+use Rattle.setups.specs.Setup.{setupRefusal, setupFields}
+use Rattle.steps.specs.Step.{stepRefusal, stepFields}
 use Rattle.model.specs.declared.Place.{Place}
 use Rattle.model.specs.declared.Kind.{Kind}
 use Rattle.model.specs.declared.Shape.{Shape}

@@ -3,7 +3,7 @@
 use Prim.Native.Nat.{ℕ}
 use mathlib.Core.List.{List, [], _∷_, _++_}
 use Rattle.terms.specs.Little.{littleBytes}
-use Rattle.trace.specs.Setup.{setupBytes}
+use Rattle.setups.specs.Setup.{setupBytes}
 
 pub record Case : Type 0 where
   pub trace : List ℕ

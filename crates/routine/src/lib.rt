@@ -14,9 +14,9 @@ use model::Place;
 use model::Reply;
 use model::Row;
 use model::Shape;
+use steps::Step;
 use terms::SlotNumber;
 use terms::Wait;
-use trace::Step;
 
 // ASK
 

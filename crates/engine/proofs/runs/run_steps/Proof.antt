@@ -11,7 +11,7 @@ use lib.ListN.{length, drop, replicate}
 use Rattle.terms.specs.Overlay.{overlay}
 use Rattle.terms.proofs.Parts.{part-to-end}
 use Rattle.bank.specs.Registers.{freshBank}
-use Rattle.trace.specs.Step.{stepRead}
+use Rattle.steps.specs.Step.{stepRead}
 use Rattle.model.specs.Bounds.{Room}
 use Rattle.model.specs.Routine.{routineOf}
 use Rattle.model.specs.Run.{rowOf, fresh}

@@ -1,0 +1,4 @@
+pub mod SetupLaws
+pub mod Outcomes
+pub mod RoundTrip
+pub mod Settled

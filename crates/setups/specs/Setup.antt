@@ -1,0 +1,113 @@
+-- The setup record of a trace (01, "The trace"), and what is refused of it, in 01's order. `most` is the most processes.
+use mathlib.Core.Bool.{Bool, not, cond, _||_}
+use mathlib.Core.List.{List, [], _∷_, _++_}
+use Prim.Native.Nat.{ℕ, _+_}
+use lib.ListN.{length, take, drop, replicate}
+use lib.Dec.{leb, ltb, eqb}
+use Rattle.terms.specs.Limits.{mostProcesses, mostSlots}
+use Rattle.terms.specs.Refusal.{refuse, _then_, outside, any, ifAccepted}
+use Rattle.terms.specs.Little.{littleOf, littleBytes}
+use Rattle.terms.specs.Overlay.{overlay}
+use Rattle.records.specs.Record.{byte, marked}
+use Rattle.setups.specs.declared.Setup.{Setup}
+use Rattle.setups.specs.declared.SetupRead.{SetupRead}
+use Rattle.setups.specs.declared.Starts.{Starts}
+
+abbrev pub setupMark : List ℕ
+setupMark = 0x4F ∷ 0x53 ∷ []
+
+-- BY KIND: 3, 5 and 6
+
+unfoldable pub badKind : ℕ → Bool
+badKind kind = outside 1 3 kind
+
+-- ℓ or b, and the zero byte
+unfoldable pub badSize : ℕ → ℕ → ℕ → Bool
+badSize kind size spare = outside 1 mostSlots size || not (eqb spare 0)
+
+-- a start byte is c, 0 to ℓ - 1, in kind 1, and the proposal, 1 to b, in kinds 2 and 3
+unfoldable pub badStart : ℕ → ℕ → ℕ → Bool
+badStart kind size x = cond (eqb kind 1) (leb size x) (outside 1 size x)
+
+-- what the reader and the writer ask alike: 3, 4, 5; and 6
+abbrev pub setupLimits : ℕ → ℕ → ℕ → ℕ → ℕ → ℕ
+setupLimits most kind n size spare =
+    refuse 3 (badKind kind)
+    then refuse 4 (outside 1 most n)
+    then refuse 5 (badSize kind size spare)
+
+abbrev pub startRefusal : ℕ → ℕ → List ℕ → ℕ
+startRefusal kind size starts = refuse 6 (any (badStart kind size) starts)
+
+-- READING
+
+abbrev pub startBytes : List ℕ → List ℕ
+startBytes s = take (byte 3 s) (drop 8 s)
+
+-- 1 (8 bytes), 2, 3, 4, 5, 1 (8 + n)
+abbrev pub headRefusal : ℕ → List ℕ → ℕ
+headRefusal most s =
+    refuse 1 (ltb (length s) 8)
+    then refuse 2 (not (marked setupMark s))
+    then setupLimits most (byte 2 s) (byte 3 s) (byte 4 s) (byte 5 s)
+    then refuse 1 (ltb (length s) (8 + byte 3 s))
+
+-- and 6
+unfoldable pub setupRefusal : ℕ → List ℕ → ℕ
+setupRefusal most s = headRefusal most s then startRefusal (byte 2 s) (byte 4 s) (startBytes s)
+
+-- the start bytes in as many places as there may be processes, 0 beyond them
+abbrev pub places : ℕ → List ℕ → List ℕ
+places most starts = overlay starts (replicate most 0)
+
+-- what is answered of the start bytes alone: 6, or the places
+abbrev pub startsOf : ℕ → ℕ → List ℕ → Starts
+startsOf kind size starts =
+    record {
+      refusal = startRefusal kind size starts;
+      places = ifAccepted (startRefusal kind size starts) (places mostProcesses starts) (replicate mostProcesses 0);
+    }
+
+-- where each field stands
+abbrev pub setupFields : List ℕ → Setup
+setupFields s =
+    record {
+      kind = byte 2 s;
+      processes = byte 3 s;
+      size = byte 4 s;
+      delta = littleOf (byte 6 s ∷ byte 7 s ∷ []);
+      starts = places mostProcesses (startBytes s);
+    }
+
+abbrev pub noSetup : Setup
+noSetup = record { kind = 0; processes = 0; size = 0; delta = 0; starts = replicate mostProcesses 0 }
+
+unfoldable pub setupRead : List ℕ → SetupRead
+setupRead s =
+    record {
+      refusal = setupRefusal mostProcesses s;
+      setup = ifAccepted (setupRefusal mostProcesses s) (setupFields s) noSetup;
+    }
+
+-- where the rest begins: past the setup, on refusal at the beginning; and its bytes, none on refusal
+unfoldable pub restStart : List ℕ → ℕ
+restStart s = ifAccepted (setupRefusal mostProcesses s) (8 + byte 3 s) 0
+
+unfoldable pub setupRest : List ℕ → List ℕ
+setupRest s = ifAccepted (setupRefusal mostProcesses s) (drop (8 + byte 3 s) s) []
+
+-- WRITING
+
+-- the first 8 bytes, and all
+abbrev pub setupHead : ℕ → ℕ → ℕ → ℕ → List ℕ
+setupHead kind n size delta = setupMark ++ (kind ∷ n ∷ size ∷ 0 ∷ []) ++ littleBytes 2 delta
+
+abbrev pub setupBytes : ℕ → ℕ → ℕ → List ℕ → List ℕ
+setupBytes kind size delta starts = setupHead kind (length starts) size delta ++ starts
+
+-- 3, 4, 5, 6, 19, for a buffer of `room` bytes; the zero byte is the writer's own
+unfoldable pub setupWriteRefusal : ℕ → ℕ → ℕ → List ℕ → ℕ → ℕ
+setupWriteRefusal most kind size starts room =
+    setupLimits most kind (length starts) size 0
+    then startRefusal kind size starts
+    then refuse 19 (ltb room (8 + length starts))

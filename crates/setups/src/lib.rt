@@ -1,0 +1,252 @@
+// The setup record: mark, kind, n, ℓ or b, a zero byte, Δ, and n start bytes. 8 + n bytes.
+ghost use mathlib.Core.Path.{_≡_};
+ghost use mathlib.Core.Bool.{_||_};
+ghost use Prim.Native.Nat.{_+_, _≤_};
+ghost use lib.ListN.{length};
+ghost use denote.Ref.{ptr};
+ghost use Rattle.terms.specs.Limits.{mostProcesses};
+ghost use Rattle.terms.specs.Refusal.{outside, any};
+ghost use Rattle.records.specs.Record.{Wrote};
+ghost use Rattle.setups.specs.Setup.{badKind, badSize, badStart, setupLimits, headRefusal, startsOf, noSetup, setupRead, setupRest, restStart, setupBytes, setupWriteRefusal};
+use records::Written;
+use terms::Trace;
+
+const MARK: [u8; 2] = [0x4F, 0x53];
+
+// `size` is ℓ in kind 1 and b in the others; `starts` has 0 in the places beyond `processes`.
+pub struct Setup {
+    pub kind: u8,
+    pub processes: u8,
+    pub size: u8,
+    pub delta: u16,
+    pub starts: [u8; 32],
+}
+
+// A setup, or the number of its refusal with every field 0.
+pub struct SetupRead {
+    pub refusal: u32,
+    pub setup: Setup,
+}
+
+fn wide(x: u8) -> usize
+    ensures { λ r. ⌜ r ≡ x ⌝ }
+{
+    x as usize
+}
+
+// Whether x is not one of low .. high.
+fn is_outside(low: usize, high: usize, x: usize) -> bool
+    ensures { λ r. ⌜ r ≡ outside low high x ⌝ }
+{
+    x < low || high < x
+}
+
+// BY KIND: 3, 5 and 6
+
+fn is_bad_kind(kind: u8) -> bool
+    ensures { λ r. ⌜ r ≡ badKind kind ⌝ }
+{
+    is_outside(1, 3, kind as usize)
+}
+
+// ℓ or b, and the zero byte.
+fn is_bad_size(kind: u8, size: u8, spare: u8) -> bool
+    ensures { λ r. ⌜ r ≡ badSize kind size spare ⌝ }
+{
+    if is_outside(1, Trace::SLOTS as usize, size as usize) {
+        return true;
+    }
+    spare != 0
+}
+
+fn is_bad_start(kind: u8, size: u8, x: u8) -> bool
+    ensures { λ r. ⌜ r ≡ badStart kind size x ⌝ }
+{
+    if kind == 1 {
+        return size <= x;
+    }
+    x < 1 || size < x
+}
+
+fn either(a: bool, b: bool) -> bool
+    ensures { λ r. ⌜ r ≡ (a || b) ⌝ }
+{
+    a | b
+}
+
+// Whether some byte of s is no start byte. It stops at none, so that many are looked at at once.
+fn any_bad_start(kind: u8, size: u8, s: &[u8]) -> bool
+    ensures { λ r. ⌜ r ≡ any (badStart kind size) (now (s .entry)) ⌝ }
+{
+    let mut bad = false;
+    let mut i = 0;
+    while i < s.len() {
+        bad = either(bad, is_bad_start(kind, size, s[i]));
+        i += 1;
+    }
+    bad
+}
+
+// 3, 4 and 5: what the reader and the writer ask alike.
+fn setup_limits(kind: u8, n: usize, size: u8, spare: u8) -> u32
+    ensures { λ r. ⌜ r ≡ setupLimits mostProcesses kind n size spare ⌝ }
+{
+    let bad_kind = is_bad_kind(kind);
+    let bad_count = is_outside(1, Trace::PROCESSES as usize, n);
+    let bad_size = is_bad_size(kind, size, spare);
+    if bad_kind {
+        return 3;
+    }
+    if bad_count {
+        return 4;
+    }
+    if bad_size {
+        return 5;
+    }
+    0
+}
+
+// READING
+
+// 1 (8 bytes), 2, 3, 4, 5, 1 (8 + n): all that a setup is refused for but its start bytes.
+fn head_refusal(trace: &[u8]) -> u32
+    ensures { λ r. ⌜ r ≡ headRefusal mostProcesses (now (trace .entry)) ⌝ }
+{
+    if trace.len() < 8 {
+        return 1;
+    }
+    if trace[0] != MARK[0] {
+        return 2;
+    }
+    if trace[1] != MARK[1] {
+        return 2;
+    }
+    let n = wide(trace[3]);
+    let no = setup_limits(trace[2], n, trace[4], trace[5]);
+    if no != 0 {
+        return no;
+    }
+    if trace.len() < 8 + n {
+        return 1;
+    }
+    0
+}
+
+// The start bytes in 32 places, once each is in its range.
+struct Starts {
+    refusal: u32,
+    places: [u8; 32],
+}
+
+fn starts_of(kind: u8, size: u8, s: &[u8]) -> Starts
+    requires { ⌜ length (now s) ≤ mostProcesses ⌝ }
+    ensures { λ r. ⌜ r ≡ startsOf kind size (now (s .entry)) ⌝ }
+{
+    let mut places = [0u8; 32];
+    if any_bad_start(kind, size, s) {
+        return Starts { refusal: 6, places };
+    }
+    bytes::copy(s, &mut places);
+    Starts { refusal: 0, places }
+}
+
+impl SetupRead {
+    fn refused(no: u32) -> Self
+        ensures { λ r. ⌜ r ≡ record { refusal = no; setup = noSetup } ⌝ }
+    {
+        SetupRead {
+            refusal: no,
+            setup: Setup {
+                kind: 0,
+                processes: 0,
+                size: 0,
+                delta: 0,
+                starts: [0; 32],
+            },
+        }
+    }
+}
+
+// The setup that a trace begins with.
+pub fn read_setup(trace: &[u8]) -> SetupRead
+    ensures { λ r. ⌜ r ≡ setupRead (now (trace .entry)) ⌝ }
+{
+    let no = head_refusal(trace);
+    if no != 0 {
+        return SetupRead::refused(no);
+    }
+    let kind = trace[2];
+    let size = trace[4];
+    let end = 8 + wide(trace[3]);
+    let read = starts_of(kind, size, &trace[8..end]);
+    let bad = read.refusal;
+    if bad != 0 {
+        return SetupRead::refused(bad);
+    }
+    let starts = read.places;
+    SetupRead {
+        refusal: 0,
+        setup: Setup {
+            kind,
+            processes: trace[3],
+            size,
+            delta: terms::u16_of(trace[6], trace[7]),
+            starts,
+        },
+    }
+}
+
+// The rest of a trace after its setup; on refusal the empty part at the trace's beginning.
+pub fn setup_rest(trace: &[u8]) -> &[u8]
+    ensures { λ r. ⌜ now r ≡ setupRest (now (trace .entry)) ⌝ }
+    ensures { λ r. ⌜ ptr r ≡ (ptr (trace .entry) .0, restStart (now (trace .entry)) + ptr (trace .entry) .1) ⌝ }
+{
+    let read = read_setup(trace);
+    if read.refusal != 0 {
+        return &trace[..0];
+    }
+    let end = 8 + wide(read.setup.processes);
+    &trace[end..]
+}
+
+// WRITING
+
+// 3, 4, 5, 6, 19 of a setup that is to be written to a buffer of `room` bytes.
+fn setup_write_refusal(kind: u8, size: u8, starts: &[u8], room: usize) -> u32
+    ensures { λ r. ⌜ r ≡ setupWriteRefusal mostProcesses kind size (now (starts .entry)) room ⌝ }
+{
+    let n = starts.len();
+    let no = setup_limits(kind, n, size, 0);
+    if no != 0 {
+        return no;
+    }
+    if any_bad_start(kind, size, starts) {
+        return 6;
+    }
+    if room < 8 + n {
+        return 19;
+    }
+    0
+}
+
+// Writes a setup of as many processes as start bytes are lent, over the buffer's first bytes.
+pub fn write_setup(kind: u8, size: u8, delta: u16, starts: &[u8], buffer: &mut [u8]) -> Written
+    ensures { λ r. ⌜ Wrote (setupWriteRefusal mostProcesses kind size (now (starts .entry)) (length (now (buffer .entry)))) (setupBytes kind size delta (now (starts .entry))) (now (buffer .entry)) r (now (buffer .exit)) ⌝ }
+{
+    let no = setup_write_refusal(kind, size, starts, buffer.len());
+    if no != 0 {
+        return Written {
+            refusal: no,
+            len: 0,
+        };
+    }
+    let n = starts.len();
+    let d = terms::u16_bytes(delta);
+    let head = [MARK[0], MARK[1], kind, n as u8, size, 0, d[0], d[1]];
+    bytes::copy(&head, buffer);
+    bytes::copy(starts, &mut buffer[8..]);
+    Written {
+        refusal: 0,
+        len: 8 + n,
+    }
+}

@@ -1,3 +1,0 @@
-pub mod Record
-pub mod Setup
-pub mod Step
