@@ -1,4 +1,4 @@
-// The engine: memory's side of a move, a run over a trace's bytes, the report.
-mod memory;
+// The engine: a step in place, a run over a trace's bytes, the report.
+mod moves;
 mod report;
 pub mod runs;

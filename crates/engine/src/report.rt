@@ -5,55 +5,40 @@ ghost use Prim.Native.Nat.{_+_, _≤_};
 ghost use lib.ListN.{length, take, drop};
 ghost use Rattle.model.specs.Routine.{routineOf};
 ghost use Rattle.model.specs.Run.{lineWidth};
-ghost use Rattle.model.specs.Report.{shownOf, shownPlace, figureOf, line};
+ghost use Rattle.model.specs.Report.{shownPlace, figureOf, line};
+ghost use Rattle.routine.specs.Rows.{rowIn, Inside};
 use model::Kind;
-use model::Place;
-use model::Row;
+use routine::rows;
 
-fn shown(place: Place) -> u32
-    ensures { λ n. ⌜ n ≡ shownOf place ⌝ }
+fn shown_place(j: usize, rows: &[u32; 288]) -> u32
+    requires { ⌜ Inside j ⌝ }
+    ensures { λ n. ⌜ n ≡ shownPlace (rowIn (now (rows .entry)) j) ⌝ }
 {
-    match place {
-        Place::Rest => 0,
-        Place::Look => 1,
-        Place::Put => 2,
-        Place::Wait => 3,
-        Place::Check => 4,
-        Place::Critical => 5,
-        Place::Flag => 6,
-        Place::Scan => 7,
-        Place::Decided => 8,
-    }
-}
-
-fn shown_place(r: Row) -> u32
-    ensures { λ n. ⌜ n ≡ shownPlace r ⌝ }
-{
-    if r.crashed {
+    if rows::is_crashed(j, rows) {
         return 9;
     }
-    let x = r.local;
-    let place = x.place;
-    shown(place)
+    rows::shown(rows::place(j, rows))
 }
 
-fn figure(kind: Kind, r: Row) -> u32
-    ensures { λ n. ⌜ n ≡ figureOf (routineOf kind) r ⌝ }
+fn figure(kind: Kind, j: usize, rows: &[u32; 288]) -> u32
+    requires { ⌜ Inside j ⌝ }
+    ensures { λ n. ⌜ n ≡ figureOf (routineOf kind) (rowIn (now (rows .entry)) j) ⌝ }
 {
-    let x = r.local;
     match kind {
-        Kind::Lock => x.slot.0,
-        Kind::Plain => x.decided,
-        Kind::Fast => x.decided,
+        Kind::Lock => rows::slot(j, rows).0,
+        Kind::Plain => rows::decided(j, rows),
+        Kind::Fast => rows::decided(j, rows),
     }
 }
 
-pub fn write_line(kind: Kind, r: Row, at: usize, report: &mut [u32])
+// The line of the process with row j, at the report's number `at`.
+pub fn write_line(kind: Kind, j: usize, rows: &[u32; 288], at: usize, report: &mut [u32])
+    requires { ⌜ Inside j ⌝ }
     requires { ⌜ at + lineWidth ≤ length (now report) ⌝ }
-    ensures { λ _. ⌜ now (report .exit) ≡ take at (now (report .entry)) ++ (line (routineOf kind) r ++ drop (at + lineWidth) (now (report .entry))) ⌝ }
+    ensures { λ _. ⌜ now (report .exit) ≡ take at (now (report .entry)) ++ (line (routineOf kind) (rowIn (now (rows .entry)) j) ++ drop (at + lineWidth) (now (report .entry))) ⌝ }
 {
-    report[at] = shown_place(r);
-    report[at + 1] = figure(kind, r);
-    report[at + 2] = r.moves;
-    report[at + 3] = r.lates;
+    report[at] = shown_place(j, rows);
+    report[at + 1] = figure(kind, j, rows);
+    report[at + 2] = rows::moves(j, rows);
+    report[at + 3] = rows::lates(j, rows);
 }

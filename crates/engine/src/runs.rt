@@ -3,66 +3,21 @@ ghost use mathlib.Core.Path.{_≡_};
 ghost use Prim.Native.Nat.{_*_, _≤_};
 ghost use lib.ListN.{length};
 ghost use Rattle.terms.specs.Limits.{mostSteps};
-ghost use Rattle.bank.specs.Registers.{bankOf};
-ghost use Rattle.model.specs.Bounds.{Sound, Starts, Room};
+ghost use Rattle.model.specs.Bounds.{Sound, Starts};
 ghost use Rattle.model.specs.Run.{lineWidth, shapeOf, kindOf};
 ghost use Rattle.model.specs.Report.{ranOf};
-ghost use Rattle.engine.specs.Stepped.{Due, sharedOf, stepAnswer, stepRow, ranFrom};
-use crate::memory;
+ghost use Rattle.engine.specs.Stepped.{ranFrom};
+use crate::moves;
 use crate::report;
 use model::Kind;
 use model::Outcome;
-use model::Reply;
-use model::Row;
 use model::Shape;
+use routine::judges;
+use routine::rows;
 use setups::Setup;
 use steps::Step;
 use terms::Trace;
 use terms::Wait;
-
-// What memory answers to an accepted step of the process with row r, and what it then holds.
-fn answer_step(
-    shape: Shape,
-    r: Row,
-    step: Step,
-    values: &mut [u32; 8],
-    deadlines: &mut [u32; 256],
-    last: &mut u32,
-    flags: &mut [bool; 9],
-) -> Reply
-    requires { ⌜ Room shape r ⌝ }
-    requires { ⌜ Due step ⌝ }
-    ensures { λ a. ⌜ record { reply = a; bank = bankOf (now (values .exit)) (now (deadlines .exit)) (now (last .exit)); shared = sharedOf (now (flags .exit)) }
-        ≡ stepAnswer shape (bankOf (now (values .entry)) (now (deadlines .entry)) (now (last .entry))) (sharedOf (now (flags .entry))) r step ⌝ }
-{
-    if step.event != 0 {
-        return Reply {
-            value: 0,
-            late: false,
-        };
-    }
-    let x = r.local;
-    let place = x.place;
-    let i = step.process;
-    let tick = step.tick;
-    let q = routine::ask(place, shape.delta, r);
-    memory::answer(values, deadlines, last, flags, i, tick, q)
-}
-
-// The row after an accepted step that memory answered with a.
-fn row_after(shape: Shape, r: Row, step: Step, a: Reply) -> Row
-    requires { ⌜ Sound shape ⌝ }
-    requires { ⌜ Room shape r ⌝ }
-    requires { ⌜ Due step ⌝ }
-    ensures { λ x. ⌜ x ≡ stepRow shape r step a ⌝ }
-{
-    if step.event != 0 {
-        return routine::crash(r);
-    }
-    let x = r.local;
-    let place = x.place;
-    routine::take(shape, place, r, step.tick, a)
-}
 
 // The records of `rest`, from the fresh state on.
 fn run_steps(shape: Shape, starts: [u8; 32], rest: &[u8], report: &mut [u32]) -> Outcome
@@ -74,15 +29,10 @@ fn run_steps(shape: Shape, starts: [u8; 32], rest: &[u8], report: &mut [u32]) ->
 {
     let kind = shape.kind;
     let n = shape.count as usize;
-    // The rows are made here, since a function of their own would hand them over by a copy. A row that begins has another value and slot than
-    // an idle one; nothing else is written.
-    let mut rows = [Row::idle(kind); 32];
+    let mut rows = [0u32; 288];
     let mut made: usize = 0;
     while made < n {
-        let r = Row::begin(kind, made as u32, starts[made]);
-        rows[made].own = r.own;
-        let x = r.local;
-        rows[made].local.slot.0 = x.slot.0;
+        rows::begin(kind, starts[made], made, &mut rows);
         made = made + 1;
     }
     let mut values = [0u32; 8];
@@ -104,31 +54,26 @@ fn run_steps(shape: Shape, starts: [u8; 32], rest: &[u8], report: &mut [u32]) ->
         }
         let step = read.step;
         let j = (step.process.0 - 1) as usize;
-        let r = rows[j];
-        let no = routine::judge(r, last, step);
+        let no = judges::judge(j, &rows, last, step);
         if no != 0 {
             return Outcome { number: no, at: k };
         }
-        let a = answer_step(
+        moves::take_step(
             shape,
-            r,
             step,
+            j,
+            &mut rows,
             &mut values,
             &mut deadlines,
             &mut touched,
             &mut flags,
         );
-        // The row is read again, so that what only TAKE needs of it is not held over the answer.
-        let row = rows[j];
-        rows[j] = row_after(shape, row, step, a);
         last = step.tick;
         at = at + 8;
     }
-    // The lines are written here for the same reason.
     let mut j: usize = 0;
     while j < n {
-        let r = rows[j];
-        report::write_line(kind, r, j * 4, report);
+        report::write_line(kind, j, &rows, j * 4, report);
         j = j + 1;
     }
     Outcome { number: 0, at: k }

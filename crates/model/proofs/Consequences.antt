@@ -30,13 +30,17 @@ use Rattle.model.proofs.World.{World, ordinary, clock}
 use Rattle.model.proofs.LockSafe.{LockInv, exclusion, exit-in-time}
 use Rattle.model.proofs.DecideSafe.{DecideInv, agreement}
 use Rattle.model.proofs.Turns.{turn}
-use Rattle.model.proofs.Keeping.{reachable, slot-small, fresh-rows, each-kept}
+use Rattle.model.proofs.Keeping.{slot-small, fresh-rows, each-kept}
 use Rattle.model.proofs.View.{view}
 use Rattle.model.proofs.Invariants.{Inv, Along, nothing, Good, Bare, reach-good}
 use Rattle.model.proofs.Shown.{shows-inside, shows-decided, decided-shows}
 use Rattle.model.proofs.Tally.{Proposer, Proposed, proposed-along, proposed-start, Cap, Capped, capped-along, capped-start, plain-within, fast-within}
 
 -- THE KIND, from a place
+
+-- the places of a routine, and of a blank row
+abbrev reachable : Routine → Place → Bool
+reachable κ p = inKind κ p || eqb (codeOf p) 0
 
 either : (a b : Bool) → T a → T (a || b)
 either true b h = tt
@@ -105,7 +109,12 @@ module _ {u : Shape} {s : State} (point : Point u s) where
     where
       by : Dec (j < u .count) → T (reachable (routine u) (rowAt s j .local .place))
       by (yes h) = either (inKind (routine u) (rowAt s j .local .place)) (eqb (codeOf (rowAt s j .local .place)) 0) (good .kept .each j .place h)
-      by (no h) = good .kept .beyond j (omega arith)
+      by (no h) = rw (good .kept .beyond j (omega arith)) (blank-reaches (routine u))
+        where
+          blank-reaches : (κ : Routine) → T (reachable κ Place.Rest)
+          blank-reaches Routine.Lock = tt
+          blank-reaches Routine.Plain = tt
+          blank-reaches Routine.Fast = tt
 
   -- THE LOCK
   module _ (j : ℕ) (a : T (inside (rowAt s j .local .place))) where
@@ -164,7 +173,7 @@ module _ {u : Shape} {s : State} (point : Point u s) where
         let p = proposer in
         let i : ℕ = p .who in
         let started =
-        fresh-rows u so xs (point .starts) (λ i r. i < u .count → r .own ≡ getD xs i 0) (λ i h l. absurd (omega arith)) (λ i h l. absurd (omega arith))
+        fresh-rows u so xs (point .starts) (λ i r. i < u .count → r .own ≡ getD xs i 0) (λ i h l. absurd (omega arith))
         (λ i h ok l. own-begins (routine u) i (getD xs i 0) (of-decision .0)) in
         (i, p .among, sym (started i (p .among)) ∙ sym (own-stays i) ∙ p .proposed, p .active)
 

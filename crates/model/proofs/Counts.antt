@@ -14,7 +14,7 @@ use Rattle.model.specs.declared.Place.{Place}
 use Rattle.model.specs.declared.Shape.{Shape}
 use Rattle.model.specs.declared.Row.{Row}
 use Rattle.model.specs.declared.State.{State}
-use Rattle.model.specs.Routine.{Routine, routine, crash, unmoved, begin, idle}
+use Rattle.model.specs.Routine.{Routine, routine, crash, unmoved, begin}
 use Rattle.model.specs.Bounds.{Bytes, Sound, Starts}
 use Rattle.model.specs.Run.{rowAt, rowOf, fresh, isMove, after, reach, Progress, Progress.going, shapeOf, restOf, startOf, records, runOf}
 use Rattle.model.specs.Counts.{howMany, stepAt, moveOf, lateIn, movesOf, latesOf}
@@ -63,11 +63,6 @@ module _ (u : Shape) (f : Row → ℕ) (test : Progress → Step → Bool) (c : 
   begins-at Routine.Plain j x = c .begins _ _ _
   begins-at Routine.Fast j x = c .begins _ _ _
 
-  idle-at : (κ : Routine) → f (idle κ) ≡ 0
-  idle-at Routine.Lock = c .begins _ _ _
-  idle-at Routine.Plain = c .begins _ _ _
-  idle-at Routine.Fast = c .begins _ _ _
-
   module _ (so : Sound u) (xs : List ℕ) (st : Starts u xs) (rest : List ℕ) where
     -- the moves of row j among the first k records that pass the test where the records before them led
     abbrev pub tallyOf : ℕ → ℕ → ℕ
@@ -95,7 +90,7 @@ module _ (u : Shape) (f : Row → ℕ) (test : Progress → Step → Bool) (c : 
     unfolding howMany
     tally k e =
         each-kept u so xs st rest (λ k s. (j : ℕ) → f (rowAt s j) ≡ tallyOf j k)
-        (fresh-rows u so xs st (λ j r. f r ≡ 0) (λ j h. c .begins _ _ _) (λ j h. idle-at (routine u)) (λ j h ok. begins-at (routine u) j _)) one-more k e .1
+        (fresh-rows u so xs st (λ j r. f r ≡ 0) (λ j h. c .begins _ _ _) (λ j h ok. begins-at (routine u) j _)) one-more k e .1
 
 -- no more than there are records, and fewer by a further test
 how-many-within : (test : ℕ → Bool) (k : ℕ) → howMany test k ≤ k

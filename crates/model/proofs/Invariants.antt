@@ -19,7 +19,7 @@ use Rattle.model.specs.declared.Row.{Row}
 use Rattle.model.specs.declared.Reply.{Reply}
 use Rattle.model.specs.declared.State.{State}
 use Rattle.model.specs.Time.{wakeAt}
-use Rattle.model.specs.Routine.{Routine, routine, askAt, told, counted, crash, slots, nextOf, unmoved, begin, idle, isDecided}
+use Rattle.model.specs.Routine.{Routine, routine, askAt, told, counted, crash, slots, nextOf, unmoved, begin, isDecided}
 use Rattle.model.specs.Memory.{reply}
 use Rattle.model.specs.Bounds.{Sound, Starts}
 use Rattle.model.specs.Run.{rowAt, rowOf, fresh, move, stop, after, reach, Progress.going}
@@ -207,11 +207,6 @@ unmoved-begin Routine.Lock j x = unmoved-as Routine.Lock Place.Rest x (j + 1) tt
 unmoved-begin Routine.Plain j x = unmoved-as Routine.Plain Place.Look 0 x tt
 unmoved-begin Routine.Fast j x = unmoved-as Routine.Fast Place.Flag 0 x tt
 
-unmoved-idle : (κ : Routine) → Unmoved κ (idle κ)
-unmoved-idle Routine.Lock = unmoved-as Routine.Lock Place.Rest 0 0 tt
-unmoved-idle Routine.Plain = unmoved-begin Routine.Plain 0 0
-unmoved-idle Routine.Fast = unmoved-begin Routine.Fast 0 0
-
 replicate-all : {A : Type 0} (n j : ℕ) (a : A) → getD (replicate n a) j a ≡ a
 replicate-all zero j a = refl
 replicate-all (suc n) zero a = refl
@@ -224,7 +219,7 @@ bare-fresh u so xs st f =
       value = λ c. replicate-all 8 c 0;
       flag = λ v. replicate-all 9 v false;
       rows =
-          fresh-rows u so xs st (λ j r. Unmoved (routine u) r) (λ j h. unmoved-as (routine u) Place.Rest 0 0 tt) (λ j h. unmoved-idle (routine u))
+          fresh-rows u so xs st (λ j r. Unmoved (routine u) r) (λ j h. unmoved-as (routine u) Place.Rest 0 0 tt)
           (λ j h ok. unmoved-begin (routine u) j (getD xs j 0));
     }
 

@@ -2,11 +2,11 @@
 -- Assumes nothing.
 use Prim.Native.Nat.{ℕ, zero, suc, _+_, _≤_, _<_}
 use mathlib.Core.Path.{_≡_, refl, ap, _∙_}
-use mathlib.Core.Bool.{Bool, true, false, cond, _||_}
+use mathlib.Core.Bool.{Bool, true, false, cond}
 use mathlib.Core.List.{List, [], _∷_}
 use native.Mathlib.Omega.{arith}
 use native.Mathlib.Nat.{add-zero, add-suc, suc-add, zero-add}
-use lib.Dec.{T, ltb, eqb}
+use lib.Dec.{ltb}
 use lib.ListN.{length, getD, set, length-set, length-replicate, List·getD-eq-default}
 use borrow.Author.Tests.{ltb-true, ltb-false}
 use Rattle.terms.specs.Limits.{unlimited}
@@ -15,7 +15,6 @@ use Rattle.terms.specs.Numbers.{indexOf}
 use Rattle.bank.specs.declared.Bank.{Bank}
 use Rattle.bank.specs.Registers.{freshBank, lateAt, afterRead, afterWrite}
 use Rattle.steps.specs.declared.Step.{Step}
-use Rattle.model.specs.declared.Place.{Place}
 use Rattle.model.specs.declared.Shape.{Shape}
 use Rattle.model.specs.declared.Row.{Row}
 use Rattle.model.specs.declared.Ask.{Ask}
@@ -23,21 +22,16 @@ use Rattle.model.specs.declared.Reply.{Reply}
 use Rattle.model.specs.declared.Shared.{Shared}
 use Rattle.model.specs.declared.State.{State}
 use Rattle.model.specs.Time.{wakeAt}
-use Rattle.model.specs.Routine.{Routine, routine, askAt, begin, idle}
+use Rattle.model.specs.Routine.{routine, askAt, begin}
 use Rattle.model.specs.Memory.{reply, bankAfter, sharedAfter}
 use Rattle.model.specs.Bounds.{Sound, startOk, Starts}
 use Rattle.model.specs.Run.{rowAt, rowOf, blank, startRow, startRows, fresh, move, moveAt, stop, after, reach, Progress.going}
 use Rattle.model.specs.Counts.{stepAt}
 use Rattle.model.proofs.RunLaws.{recordAt, Keeps, reach-start, reach-accepts, each-record}
-use Rattle.model.proofs.Places.{codeOf, inKind}
 use Rattle.model.proofs.Turns.{each-row, move-or-stop}
-use Rattle.model.proofs.Rows.{local-ok, row-ok, next-ok, ok-begin, ok-blank, ok-idle}
+use Rattle.model.proofs.Rows.{local-ok, row-ok, next-ok, ok-begin, ok-blank}
 pub use Rattle.model.proofs.Rows.{RowOk, slot-small}
 pub use Rattle.model.proofs.Admits.{Admitted, admitted, admitted-accepts}
-
--- the places of a routine, and of what is read past the last row
-abbrev pub reachable : Routine → Place → Bool
-reachable κ p = inKind κ p || eqb (codeOf p) 0
 
 pub record Kept (u : Shape) (s : State) : Type 0 where
   pub rows : length (s .rows) ≡ 32
@@ -45,7 +39,7 @@ pub record Kept (u : Shape) (s : State) : Type 0 where
   pub deadlines : length (s .bank .deadlines) ≡ 256
   pub flags : length (s .shared .flags) ≡ 9
   pub each : (j : ℕ) → RowOk (routine u) u j (rowAt s j)
-  pub beyond : (j : ℕ) → u .count ≤ j → T (reachable (routine u) (rowAt s j .local .place))
+  pub beyond : (j : ℕ) → u .count ≤ j → rowAt s j ≡ blank
 
 -- A RECORD
 
@@ -97,7 +91,7 @@ module _ (u : Shape) (so : Sound u) (s : State) (kt : Kept u s) where
               each-row (RowOk (routine u) u) (s .rows) (indexOf i) _ there (λ j n. kt .each j)
               (row-ok (routine u) u (indexOf i) r _ (kt .each (indexOf i)) refl
               (next-ok u so (indexOf i) r (a .value) (wakeAt (u .delta) t) (routine u) (kt .each (indexOf i)) (r .local .place) _));
-          beyond = each-row (λ j x. u .count ≤ j → T (reachable (routine u) (x .local .place))) (s .rows) (indexOf i) _ there (λ j n. kt .beyond j) (λ l. absurd (omega arith));
+          beyond = each-row (λ j x. u .count ≤ j → x ≡ blank) (s .rows) (indexOf i) _ there (λ j n. kt .beyond j) (λ l. absurd (omega arith));
         }
 
     pub kept-stop : Kept u (stop s i t)
@@ -112,7 +106,7 @@ module _ (u : Shape) (so : Sound u) (s : State) (kt : Kept u s) where
               each-row (RowOk (routine u) u) (s .rows) (indexOf i) _ there (λ j n. kt .each j)
               (row-ok (routine u) u (indexOf i) (rowOf s i) _ (kt .each (indexOf i)) refl
               (local-ok (routine u) u (indexOf i) (rowOf s i) (kt .each (indexOf i))));
-          beyond = each-row (λ j x. u .count ≤ j → T (reachable (routine u) (x .local .place))) (s .rows) (indexOf i) _ there (λ j n. kt .beyond j) (λ l. absurd (omega arith));
+          beyond = each-row (λ j x. u .count ≤ j → x ≡ blank) (s .rows) (indexOf i) _ there (λ j n. kt .beyond j) (λ l. absurd (omega arith));
         }
 
   pub kept-after : (k : Step) → Admitted u s k → Kept u (after u s k)
@@ -120,16 +114,6 @@ module _ (u : Shape) (so : Sound u) (s : State) (kt : Kept u s) where
       move-or-stop u s k (Kept u) (λ e. kept-move (k .process) (k .tick) (ad .inside)) (λ e. kept-stop (k .process) (k .tick) (ad .inside))
 
 -- A RUN, from its beginning
-
-blank-reaches : (κ : Routine) → T (reachable κ (blank .local .place))
-blank-reaches Routine.Lock = tt
-blank-reaches Routine.Plain = tt
-blank-reaches Routine.Fast = tt
-
-idle-reaches : (κ : Routine) → T (reachable κ (idle κ .local .place))
-idle-reaches Routine.Lock = tt
-idle-reaches Routine.Plain = tt
-idle-reaches Routine.Fast = tt
 
 pub length-startRows : (u : Shape) (j : ℕ) (xs : List ℕ) → length (startRows u j xs) ≡ length xs
 unfolding startRows
@@ -143,17 +127,17 @@ getD-startRows u i (x ∷ xs) zero h = rw add-zero
 getD-startRows u i (x ∷ xs) (suc j) h = getD-startRows u (suc i) xs j (omega arith) ∙ rw (suc-add, add-suc)
 
 module _ (u : Shape) (so : Sound u) (xs : List ℕ) (st : Starts u xs) where
-  -- at the start: what holds of each row that begins, of idle ones and past the last one, holds of all
-  pub fresh-rows : (P : ℕ → Row → Type 0) → ((j : ℕ) → u .count ≤ j → P j blank) → ((j : ℕ) → u .count ≤ j → P j (idle (routine u)))
+  -- at the start: what holds of each row that begins, and of blank ones, holds of all
+  pub fresh-rows : (P : ℕ → Row → Type 0) → ((j : ℕ) → u .count ≤ j → P j blank)
       → ((j : ℕ) → j < u .count → startOk (routine u) (u .size) (getD xs j 0) → P j (begin (routine u) j (getD xs j 0))) → (j : ℕ) → P j (rowAt (fresh u xs) j)
   unfolding fresh
-  fresh-rows P none nobody some j = by (ltb j (u .count)) refl (ltb j (length xs)) refl
+  fresh-rows P none some j = by (ltb j (u .count)) refl (ltb j (length xs)) refl
     where
       by : (b : Bool) → ltb j (u .count) ≡ b → (c : Bool) → ltb j (length xs) ≡ c → P j (getD (startRows u 0 xs) j blank)
       by true e true f =
           let below = ltb-true j (u .count) e in
           rw (getD-startRows u 0 xs j (ltb-true j (length xs) f), zero-add, e) (some j below (st .each j below))
-      by false e true f = rw (getD-startRows u 0 xs j (ltb-true j (length xs) f), zero-add, e) (nobody j (ltb-false j (u .count) e))
+      by false e true f = rw (getD-startRows u 0 xs j (ltb-true j (length xs) f), zero-add, e) (none j (ltb-false j (u .count) e))
       by b e false f =
           let past = ltb-false j (length xs) f in
           rw (List·getD-eq-default (startRows u 0 xs) blank {n = j} (omega (arith, length-startRows u 0 xs))) (none j (omega (arith, st .long, so .few)))
@@ -166,8 +150,8 @@ module _ (u : Shape) (so : Sound u) (xs : List ℕ) (st : Starts u xs) where
         values = refl;
         deadlines = length-replicate 256 unlimited;
         flags = refl;
-        each = fresh-rows (RowOk (routine u) u) (λ j h. ok-blank (routine u) u j so h) (λ j h. ok-idle (routine u) u j so h) (λ j h ok. ok-begin (routine u) u j (getD xs j 0) ok);
-        beyond = fresh-rows (λ j r. u .count ≤ j → T (reachable (routine u) (r .local .place))) (λ j h l. blank-reaches (routine u)) (λ j h l. idle-reaches (routine u)) (λ j h ok l. absurd (omega arith));
+        each = fresh-rows (RowOk (routine u) u) (λ j h. ok-blank (routine u) u j so h) (λ j h ok. ok-begin (routine u) u j (getD xs j 0) ok);
+        beyond = fresh-rows (λ j r. u .count ≤ j → r ≡ blank) (λ j h l. refl) (λ j h ok l. absurd (omega arith));
       }
 
   -- what holds at the start and is kept by each accepted record of a kept state holds after each of them

@@ -13,7 +13,7 @@ use Rattle.model.specs.declared.Kind.{Kind}
 use Rattle.model.specs.declared.Shape.{Shape}
 use Rattle.model.specs.declared.Local.{Local}
 use Rattle.model.specs.declared.Row.{Row}
-use Rattle.model.specs.Routine.{Routine, to, scans, Slots, slotsOf, slots, lockNext, plainNext, scanAt, fastNext, nextOf, begin, idle}
+use Rattle.model.specs.Routine.{Routine, to, scans, Slots, slotsOf, slots, lockNext, plainNext, scanAt, fastNext, nextOf, begin}
 use Rattle.model.specs.Bounds.{Sound, startOk}
 use Rattle.model.specs.Run.{blank}
 use Rattle.model.proofs.Places.{inKind}
@@ -153,8 +153,3 @@ pub slot-small : (κ : Routine) (u : Shape) → Sound u → (j : ℕ) (r : Row) 
 slot-small Routine.Lock u so j r ok = omega (arith, ok .slot, so .slim)
 slot-small Routine.Plain u so j r ok = omega (arith, ok .slot)
 slot-small Routine.Fast u so j r ok = omega (arith, ok .slot)
-
-pub ok-idle : (κ : Routine) (u : Shape) (j : ℕ) → Sound u → u .count ≤ j → RowOk κ u j (idle κ)
-ok-idle Routine.Lock u j so past = ok-blank Routine.Lock u j so past
-ok-idle Routine.Plain u j so past = record { place = λ h. tt; own = λ h. absurd (omega arith); small = omega arith; slot = refl; scan = omega arith }
-ok-idle Routine.Fast u j so past = record { place = λ h. tt; own = λ h. absurd (omega arith); small = omega arith; slot = refl; scan = omega arith }

@@ -1,4 +1,4 @@
--- The rows at the start as they are filled from the front: the first j begin, the others are still idle.
+-- The rows at the start as they are filled from the front: the first j begin, the others are still blank.
 -- Assumes nothing.
 use Prim.Native.Nat.{ℕ, zero, suc, _+_, _≤_, _<_}
 use mathlib.Core.Path.{_≡_, refl, sym, _∙_}
@@ -9,40 +9,27 @@ use native.Mathlib.Omega.{arith}
 use borrow.Author.Tests.{ltb-true, ltb-false, lt-ltb, le-ltb, eqb-true, eqb-false}
 use lib.Dec.{eqb, ltb}
 use lib.ListN.{length, getD, set, replicate, length-set}
-use lib.Seq.{ext-getD, set-set, getD-set-same, getD-set-other}
+use lib.Seq.{ext-getD, getD-set-same, getD-set-other}
 use Rattle.terms.specs.Limits.{mostProcesses}
 use Rattle.model.specs.declared.Shape.{Shape}
 use Rattle.model.specs.declared.Row.{Row}
-use Rattle.model.specs.Routine.{Routine, routine, on, begin, idle}
+use Rattle.model.specs.Routine.{routine, begin}
 use Rattle.model.specs.Run.{blank, startRow, startRows}
 use Rattle.model.proofs.Keeping.{length-startRows, getD-startRows}
-
--- a row with another value to write, and on another slot
-abbrev withOwn : ℕ → Row → Row
-withOwn v r = record { local = r .local; own = v; moves = r .moves; lates = r .lates; crashed = r .crashed }
-
-abbrev withSlot : ℕ → Row → Row
-withSlot c r = record { local = on c (r .local); own = r .own; moves = r .moves; lates = r .lates; crashed = r .crashed }
-
--- a process begins as nobody does, but for these two
-begins-from-idle : (κ : Routine) (j x : ℕ) → withSlot (begin κ j x .local .slot .0) (withOwn (begin κ j x .own) (idle κ)) ≡ begin κ j x
-begins-from-idle Routine.Lock j x = refl
-begins-from-idle Routine.Plain j x = refl
-begins-from-idle Routine.Fast j x = refl
 
 pub record Filled (u : Shape) (xs : List ℕ) (j : ℕ) (rows : List Row) : Type 0 where
   pub long : length rows ≡ mostProcesses
   pub first : (i : ℕ) → i < j → getD rows i blank ≡ startRow u i (getD xs i 0)
-  pub others : (i : ℕ) → j ≤ i → i < mostProcesses → getD rows i blank ≡ idle (routine u)
+  pub others : (i : ℕ) → j ≤ i → getD rows i blank ≡ blank
 
-all-alike : (r : Row) (n i : ℕ) → i < n → getD (replicate n r) i blank ≡ r
-all-alike r zero i h = absurd (omega arith)
-all-alike r (suc n) zero h = refl
-all-alike r (suc n) (suc i) h = all-alike r n i (omega arith)
+all-blank : (n i : ℕ) → getD (replicate n blank) i blank ≡ blank
+all-blank zero i = refl
+all-blank (suc n) zero = refl
+all-blank (suc n) (suc i) = all-blank n i
 
 module _ (u : Shape) (xs : List ℕ) where
-  pub filled-none : (r : Row) → r ≡ idle (routine u) → Filled u xs 0 (replicate mostProcesses r)
-  filled-none r e = rw e (record { long = refl; first = λ i h. absurd (omega arith); others = λ i h k. all-alike _ mostProcesses i k })
+  pub filled-none : (r : Row) → r ≡ blank → Filled u xs 0 (replicate mostProcesses r)
+  filled-none r e = rw e (record { long = refl; first = λ i h. absurd (omega arith); others = λ i h. all-blank mostProcesses i })
 
   module _ (j : ℕ) (rows : List Row) (filled : Filled u xs j rows) where
     pub filled-more : j < mostProcesses → j < u .count → {r : Row} → r ≡ begin (routine u) j (getD xs j 0) → Filled u xs (j + 1) (set rows j r)
@@ -50,7 +37,7 @@ module _ (u : Shape) (xs : List ℕ) where
         record {
           long = simp length-set (filled .long);
           first = λ i h. at i h (eqb i j) refl;
-          others = λ i h k. getD-set-other rows j i r blank (λ e. absurd (omega arith)) ∙ filled .others i (omega arith) k;
+          others = λ i h. getD-set-other rows j i r blank (λ e. absurd (omega arith)) ∙ filled .others i (omega arith);
         }
       where
         at : (i : ℕ) → i < j + 1 → (b : Bool) → eqb i j ≡ b → getD (set rows j r) i blank ≡ startRow u i (getD xs i 0)
@@ -61,15 +48,6 @@ module _ (u : Shape) (xs : List ℕ) where
             let differ = eqb-false i j s in
             getD-set-other rows j i r blank differ ∙ filled .first i (omega arith)
 
-    -- the same in place, the value first and then the slot
-    pub filled-in-place : j < mostProcesses → j < u .count → {b : Row} → b ≡ begin (routine u) j (getD xs j 0)
-        → Filled u xs (j + 1) (set (set rows j (withOwn (b .own) (getD rows j blank))) j (withSlot (b .local .slot .0) (getD (set rows j (withOwn (b .own) (getD rows j blank))) j blank)))
-    filled-in-place room below {b} e =
-        rw (set-set rows j (withOwn (b .own) (getD rows j blank)) _)
-        (filled-more room below
-        (rw (getD-set-same rows j (withOwn (b .own) (getD rows j blank)) blank (omega (arith, filled .long)), filled .others j (omega arith) room, e)
-        (begins-from-idle (routine u) j (getD xs j 0))))
-
     pub filled-done : length xs ≡ mostProcesses → ((i : ℕ) → j ≤ i → i < mostProcesses → u .count ≤ i) → rows ≡ startRows u 0 xs
     filled-done long past =
         ext-getD blank rows (startRows u 0 xs) (omega (arith, filled .long, length-startRows u 0 xs)) (λ i h. at i (omega (arith, filled .long)) (ltb i j) refl)
@@ -78,4 +56,4 @@ module _ (u : Shape) (xs : List ℕ) where
         at i h true s = rw (getD-startRows u 0 xs i (omega arith), zero-add) (filled .first i (ltb-true i j s))
         at i h false s =
             let beyond : j ≤ i = ltb-false i j s in
-            rw (getD-startRows u 0 xs i (omega arith), zero-add, le-ltb i (u .count) (past i beyond h)) (filled .others i beyond h)
+            rw (getD-startRows u 0 xs i (omega arith), zero-add, le-ltb i (u .count) (past i beyond h)) (filled .others i beyond)

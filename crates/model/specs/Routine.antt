@@ -165,12 +165,6 @@ unmoved p c v =
       crashed = false;
     }
 
--- where no process is: as one stands that begins, with slot and value 0
-abbrev pub idle : Routine → Row
-idle Routine.Lock = unmoved Place.Rest 0 0
-idle Routine.Plain = unmoved Place.Look 0 0
-idle Routine.Fast = unmoved Place.Flag 0 0
-
 -- the row at index j, of a process with start byte x
 abbrev pub begin : Routine → ℕ → ℕ → Row
 begin Routine.Lock j x = unmoved Place.Rest x (j + 1)

@@ -22,12 +22,12 @@ use Rattle.model.specs.declared.Ask.{Ask}
 use Rattle.model.specs.declared.State.{State}
 use Rattle.model.specs.declared.Outcome.{Outcome}
 use Rattle.model.specs.Time.{early, wakeAt, waiting}
-use Rattle.model.specs.Routine.{routine, askAt, rowAfter, crash, unmoved, idle, begin, isDecided}
+use Rattle.model.specs.Routine.{routine, askAt, rowAfter, crash, unmoved, begin, isDecided}
 use Rattle.model.specs.Memory.{reply, bankAfter, sharedAfter}
 
 -- THE STATE
 
--- what is read past the last row
+-- what stands past the last process
 abbrev pub blank : Row
 blank = unmoved Place.Rest 0 0
 
@@ -38,9 +38,9 @@ rowAt s j = getD (s .rows) j blank
 abbrev pub rowOf : State → ProcessNumber → Row
 rowOf s i = rowAt s (indexOf i)
 
--- at the start: where the kind begins, with the start byte x; past the last process nobody
+-- at the start: where the kind begins, with the start byte x
 abbrev pub startRow : Shape → ℕ → ℕ → Row
-startRow u j x = cond (ltb j (u .count)) (begin (routine u) j x) (idle (routine u))
+startRow u j x = cond (ltb j (u .count)) (begin (routine u) j x) blank
 
 unfoldable pub startRows : Shape → ℕ → List ℕ → List Row
 startRows u j [] = []

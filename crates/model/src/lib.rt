@@ -109,19 +109,8 @@ impl Row {
         }
     }
 
-    // Where no process is: as one stands that begins, with slot and value 0.
-    pub fn idle(kind: Kind) -> Self
-        ensures { λ r. ⌜ r ≡ Rattle.model.specs.Routine.idle (routineOf kind) ⌝ }
-    {
-        match kind {
-            Kind::Lock => Row::unmoved(Place::Rest, 0, 0),
-            Kind::Plain => Row::unmoved(Place::Look, 0, 0),
-            Kind::Fast => Row::unmoved(Place::Flag, 0, 0),
-        }
-    }
-
     // The row at index j, of a process with start byte x.
-    pub fn begin(kind: Kind, j: u32, x: u8) -> Self
+    fn begin(kind: Kind, j: u32, x: u8) -> Self
         requires { ⌜ j < mostProcesses ⌝ }
         ensures { λ r. ⌜ r ≡ Rattle.model.specs.Routine.begin (routineOf kind) j x ⌝ }
     {
@@ -135,12 +124,12 @@ impl Row {
 }
 
 impl State {
-    // The rows at the start: where the kind begins, idle past the last process.
+    // The rows at the start: where the kind begins, and blank past the last process.
     fn start_rows(shape: Shape, starts: [u8; 32]) -> [Row; 32]
         ensures { λ rows. ⌜ rows ≡ startRows shape 0 starts ⌝ }
     {
         let kind = shape.kind;
-        let mut rows = [Row::idle(kind); 32];
+        let mut rows = [Row::unmoved(Place::Rest, 0, 0); 32];
         let mut j: usize = 0;
         while j < 32 {
             if shape.count <= j as u32 {

@@ -1,2 +1,1 @@
-pub mod SlotLaws
-pub mod Settled
+pub mod RowLaws

@@ -1,4 +1,4 @@
--- `model::State::start_rows` meets its contract. The first j rows begin, the others are idle.
+-- `model::State::start_rows` meets its contract. The first j rows begin, the others are blank.
 -- Assumes nothing.
 use Rattle.model.proofs.StartLaws.{Filled, filled-none, filled-more, filled-done}
 use borrow.Author.Needs.{needs}
@@ -14,7 +14,7 @@ abbrev μ-loop : tie.MeasureT-loop
 μ-loop shape starts kind rows₀ j₀ rows j = 32 - j
 
 loop-holds : tie.Need-loop-holds Inv-loop μ-loop
-loop-holds c = let a = c .before .args in (search needs, filled-none (a .shape) (a .t2) (c .idle .result) (c .idle .ensures))
+loop-holds c = let a = c .before .args in (search needs, filled-none (a .shape) (a .t2) (c .unmoved .result) (c .unmoved .ensures))
 
 returns : tie.Need-returns Inv-loop μ-loop
 returns c =

@@ -1,0 +1,116 @@
+// A step in place: by the place of its process one operation of memory, and where the process goes with the answer.
+ghost use Prim.Native.Nat.{_≤_};
+ghost use mathlib.Core.Path.{_≡_};
+ghost use mathlib.Core.Bool.{false, cond};
+ghost use lib.ListN.{getD};
+ghost use Rattle.terms.specs.Limits.{mostSlots, topTick};
+ghost use Rattle.bank.specs.Registers.{bankOf};
+ghost use Rattle.model.specs.Bounds.{Sound, Room};
+ghost use Rattle.routine.specs.Rows.{rowIn, Inside};
+ghost use Rattle.engine.specs.Stepped.{Numbered, Due, sharedOf, Moved, Stepped};
+use bank::registers;
+use model::Place;
+use model::Shape;
+use routine::rows;
+use routine::takes;
+use steps::Step;
+use terms::ProcessNumber;
+use terms::Wait;
+
+fn flag(v: u32, flags: &[bool; 9]) -> u32
+    requires { ⌜ v ≤ mostSlots ⌝ }
+    ensures { λ n. ⌜ n ≡ cond (getD (now (flags .entry)) v false) 1 0 ⌝ }
+{
+    let at = v as usize;
+    if flags[at] {
+        return 1;
+    }
+    0
+}
+
+fn make_move(
+    shape: Shape,
+    i: ProcessNumber,
+    tick: u32,
+    j: usize,
+    rows: &mut [u32; 288],
+    values: &mut [u32; 8],
+    deadlines: &mut [u32; 256],
+    last: &mut u32,
+    flags: &mut [bool; 9],
+)
+    requires { ⌜ Sound shape ⌝ }
+    requires { ⌜ Numbered i ⌝ }
+    requires { ⌜ tick ≤ topTick ⌝ }
+    requires { ⌜ Inside j ⌝ }
+    requires { ⌜ Room shape (rowIn (now rows) j) ⌝ }
+    ensures { λ _. ⌜ Moved shape i tick j (now (rows .entry)) (now (rows .exit))
+        (bankOf (now (values .entry)) (now (deadlines .entry)) (now (last .entry))) (bankOf (now (values .exit)) (now (deadlines .exit)) (now (last .exit)))
+        (sharedOf (now (flags .entry))) (sharedOf (now (flags .exit))) ⌝ }
+{
+    let c = rows::slot(j, rows);
+    let place = rows::place(j, rows);
+    match place {
+        Place::Rest => {
+            takes::rest(shape, j, rows);
+        }
+        Place::Look => {
+            let v = registers::read_granted(values, deadlines, last, i, c, tick, shape.delta);
+            takes::look(shape, v, j, rows);
+        }
+        Place::Put => {
+            let v = rows::own(j, rows);
+            let late = registers::write_granted(values, deadlines, last, i, c, tick, v);
+            takes::put(shape, late, j, rows);
+        }
+        Place::Wait => {
+            takes::wait(shape, tick, j, rows);
+        }
+        Place::Check => {
+            let v = registers::read_granted(values, deadlines, last, i, c, tick, Wait::UNLIMITED);
+            takes::check(shape, v, j, rows);
+        }
+        Place::Critical => {
+            let late = registers::write_granted(values, deadlines, last, i, c, tick, 0);
+            takes::critical(shape, late, j, rows);
+        }
+        Place::Flag => {
+            let v = rows::own(j, rows) as usize;
+            flags[v] = true;
+            takes::flag(shape, j, rows);
+        }
+        Place::Scan => {
+            let v = flag(rows::scan(j, rows), flags);
+            takes::scan(shape, v, j, rows);
+        }
+        Place::Decided => {
+            takes::decided(shape, j, rows);
+        }
+    }
+}
+
+// An accepted step of the process whose row is the j-th: a move, or a crash.
+pub fn take_step(
+    shape: Shape,
+    step: Step,
+    j: usize,
+    rows: &mut [u32; 288],
+    values: &mut [u32; 8],
+    deadlines: &mut [u32; 256],
+    last: &mut u32,
+    flags: &mut [bool; 9],
+)
+    requires { ⌜ Sound shape ⌝ }
+    requires { ⌜ Due step ⌝ }
+    requires { ⌜ Inside j ⌝ }
+    requires { ⌜ Room shape (rowIn (now rows) j) ⌝ }
+    ensures { λ _. ⌜ Stepped shape step j (now (rows .entry)) (now (rows .exit))
+        (bankOf (now (values .entry)) (now (deadlines .entry)) (now (last .entry))) (bankOf (now (values .exit)) (now (deadlines .exit)) (now (last .exit)))
+        (sharedOf (now (flags .entry))) (sharedOf (now (flags .exit))) ⌝ }
+{
+    if step.event != 0 {
+        rows::crash(j, rows);
+        return;
+    }
+    make_move(shape, step.process, step.tick, j, rows, values, deadlines, last, flags);
+}

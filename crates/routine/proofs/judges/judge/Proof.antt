@@ -1,0 +1,64 @@
+use borrow.Author.Needs.{needs}
+use Rattle.routine.proofs.judges.judge.Statement.{statement}
+use Rattle.routine.proofs.judges.judge.Tie as tie
+use Rattle.routine.proofs.judges.judge.Reads as reads
+use Rattle.routine.proofs.judges.judge.Lts as lts
+use Rattle.routine.proofs.judges.is_decided.Reads as is-decided-reads
+use Rattle.routine.proofs.rows.is_crashed.Reads as is-crashed-reads
+use Rattle.routine.proofs.rows.place.Reads as place-reads
+use Rattle.routine.proofs.rows.wake.Reads as wake-reads
+
+-- src/judges.rt:32:9
+returns : tie.Need-returns
+returns c = ?
+
+-- src/judges.rt:34:8
+is-crashed-requires : tie.Need-is-crashed-requires
+is-crashed-requires c κs = search needs
+
+-- src/judges.rt:35:9
+returns-2 : tie.Need-returns-2
+returns-2 c = ?
+
+-- src/judges.rt:38:9
+returns-3 : tie.Need-returns-3
+returns-3 c = ?
+
+-- src/judges.rt:40:19
+place-requires : tie.Need-place-requires
+place-requires c κs = search needs
+
+-- src/judges.rt:40:8
+is-decided-requires : tie.Need-is-decided-requires
+is-decided-requires c κs = search needs
+
+-- src/judges.rt:41:9
+returns-4 : tie.Need-returns-4
+returns-4 c = ?
+
+-- src/judges.rt:43:20
+wake-requires : tie.Need-wake-requires
+wake-requires c κs = search needs
+
+-- src/judges.rt:44:9
+returns-5 : tie.Need-returns-5
+returns-5 c = ?
+
+-- src/judges.rt:27:1
+returns-6 : tie.Need-returns-6
+returns-6 c = ?
+
+pub judge-spec : {M : Type 1} → statement M
+judge-spec =
+    tie.close
+    (tie.spec
+    returns
+    is-crashed-requires
+    returns-2
+    returns-3
+    place-requires
+    is-decided-requires
+    returns-4
+    wake-requires
+    returns-5
+    returns-6)

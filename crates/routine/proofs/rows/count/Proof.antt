@@ -1,0 +1,110 @@
+use borrow.Author.Needs.{needs}
+use Rattle.routine.proofs.rows.count.Statement.{statement}
+use Rattle.routine.proofs.rows.count.Tie as tie
+use Rattle.routine.proofs.rows.count.Reads as reads
+use Rattle.routine.proofs.rows.count.Lts as lts
+
+-- src/rows.rt:186:32
+mul-rows : tie.Need-mul-rows
+mul-rows c = search needs
+
+-- src/rows.rt:186:32
+add-rows : tie.Need-add-rows
+add-rows c = search needs
+
+-- src/rows.rt:186:27
+mul-rows-2 : tie.Need-mul-rows-2
+mul-rows-2 c = search needs
+
+-- src/rows.rt:186:27
+element-copy-out-rows : tie.Need-element-copy-out-rows
+element-copy-out-rows c = search needs
+
+-- src/rows.rt:186:27
+add-rows-2 : tie.Need-add-rows-2
+add-rows-2 c = ?
+
+-- src/rows.rt:186:10
+mul-rows-3 : tie.Need-mul-rows-3
+mul-rows-3 c = search needs
+
+-- src/rows.rt:186:10
+add-rows-3 : tie.Need-add-rows-3
+add-rows-3 c = search needs
+
+-- src/rows.rt:186:5
+mul-rows-4 : tie.Need-mul-rows-4
+mul-rows-4 c = search needs
+
+-- src/rows.rt:186:5
+element-write-rows : tie.Need-element-write-rows
+element-write-rows c = search needs
+
+-- src/rows.rt:188:36
+mul-rows-5 : tie.Need-mul-rows-5
+mul-rows-5 c = search needs
+
+-- src/rows.rt:188:36
+add-rows-4 : tie.Need-add-rows-4
+add-rows-4 c = search needs
+
+-- src/rows.rt:188:31
+mul-rows-6 : tie.Need-mul-rows-6
+mul-rows-6 c = search needs
+
+-- src/rows.rt:188:31
+element-copy-out-rows-2 : tie.Need-element-copy-out-rows-2
+element-copy-out-rows-2 c = search needs
+
+-- src/rows.rt:188:31
+add-rows-5 : tie.Need-add-rows-5
+add-rows-5 c = ?
+
+-- src/rows.rt:188:14
+mul-rows-7 : tie.Need-mul-rows-7
+mul-rows-7 c = search needs
+
+-- src/rows.rt:188:14
+add-rows-6 : tie.Need-add-rows-6
+add-rows-6 c = search needs
+
+-- src/rows.rt:188:9
+mul-rows-8 : tie.Need-mul-rows-8
+mul-rows-8 c = search needs
+
+-- src/rows.rt:188:9
+element-write-rows-2 : tie.Need-element-write-rows-2
+element-write-rows-2 c = search needs
+
+-- src/rows.rt:181:1
+returns : tie.Need-returns
+returns c = ?
+
+-- src/rows.rt:181:1
+returns-2 : tie.Need-returns-2
+returns-2 c = ?
+
+pub count-spec : {M : Type 1} → statement M
+count-spec =
+    tie.close
+    (tie.spec
+    mul-rows
+    add-rows
+    mul-rows-2
+    element-copy-out-rows
+    add-rows-2
+    mul-rows-3
+    add-rows-3
+    mul-rows-4
+    element-write-rows
+    mul-rows-5
+    add-rows-4
+    mul-rows-6
+    element-copy-out-rows-2
+    add-rows-5
+    mul-rows-7
+    add-rows-6
+    mul-rows-8
+    element-write-rows-2
+    returns
+    returns-2)

@@ -1,0 +1,28 @@
+use borrow.Author.Needs.{needs}
+use Rattle.routine.proofs.rows.owns.Statement.{statement}
+use Rattle.routine.proofs.rows.owns.Tie as tie
+use Rattle.routine.proofs.rows.owns.Reads as reads
+use Rattle.routine.proofs.rows.owns.Lts as lts
+
+-- src/rows.rt:179:10
+mul-rows : tie.Need-mul-rows
+mul-rows c = search needs
+
+-- src/rows.rt:179:10
+add-rows : tie.Need-add-rows
+add-rows c = search needs
+
+-- src/rows.rt:179:5
+mul-rows-2 : tie.Need-mul-rows-2
+mul-rows-2 c = search needs
+
+-- src/rows.rt:179:5
+element-write-rows : tie.Need-element-write-rows
+element-write-rows c = search needs
+
+-- src/rows.rt:175:1
+returns : tie.Need-returns
+returns c = ?
+
+pub owns-spec : {M : Type 1} → statement M
+owns-spec = tie.close (tie.spec mul-rows add-rows mul-rows-2 element-write-rows returns)

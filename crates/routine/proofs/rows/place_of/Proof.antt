@@ -1,0 +1,54 @@
+use Rattle.routine.proofs.rows.place_of.Statement.{statement}
+use Rattle.routine.proofs.rows.place_of.Tie as tie
+use Rattle.routine.proofs.rows.place_of.Reads as reads
+use Rattle.routine.proofs.rows.place_of.Lts as lts
+
+-- src/rows.rt:31:9
+returns : tie.Need-returns
+returns c = ?
+
+-- src/rows.rt:34:9
+returns-2 : tie.Need-returns-2
+returns-2 c = ?
+
+-- src/rows.rt:37:9
+returns-3 : tie.Need-returns-3
+returns-3 c = ?
+
+-- src/rows.rt:40:9
+returns-4 : tie.Need-returns-4
+returns-4 c = ?
+
+-- src/rows.rt:43:9
+returns-5 : tie.Need-returns-5
+returns-5 c = ?
+
+-- src/rows.rt:46:9
+returns-6 : tie.Need-returns-6
+returns-6 c = ?
+
+-- src/rows.rt:49:9
+returns-7 : tie.Need-returns-7
+returns-7 c = ?
+
+-- src/rows.rt:52:9
+returns-8 : tie.Need-returns-8
+returns-8 c = ?
+
+-- src/rows.rt:27:1
+returns-9 : tie.Need-returns-9
+returns-9 c = ?
+
+pub place-of-spec : {M : Type 1} → statement M
+place-of-spec =
+    tie.close
+    (tie.spec
+    returns
+    returns-2
+    returns-3
+    returns-4
+    returns-5
+    returns-6
+    returns-7
+    returns-8
+    returns-9)

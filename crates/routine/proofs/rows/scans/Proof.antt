@@ -1,0 +1,28 @@
+use borrow.Author.Needs.{needs}
+use Rattle.routine.proofs.rows.scans.Statement.{statement}
+use Rattle.routine.proofs.rows.scans.Tie as tie
+use Rattle.routine.proofs.rows.scans.Reads as reads
+use Rattle.routine.proofs.rows.scans.Lts as lts
+
+-- src/rows.rt:172:10
+mul-rows : tie.Need-mul-rows
+mul-rows c = search needs
+
+-- src/rows.rt:172:10
+add-rows : tie.Need-add-rows
+add-rows c = search needs
+
+-- src/rows.rt:172:5
+mul-rows-2 : tie.Need-mul-rows-2
+mul-rows-2 c = search needs
+
+-- src/rows.rt:172:5
+element-write-rows : tie.Need-element-write-rows
+element-write-rows c = search needs
+
+-- src/rows.rt:168:1
+returns : tie.Need-returns
+returns c = ?
+
+pub scans-spec : {M : Type 1} → statement M
+scans-spec = tie.close (tie.spec mul-rows add-rows mul-rows-2 element-write-rows returns)

@@ -1,0 +1,28 @@
+use borrow.Author.Needs.{needs}
+use Rattle.routine.proofs.rows.until.Statement.{statement}
+use Rattle.routine.proofs.rows.until.Tie as tie
+use Rattle.routine.proofs.rows.until.Reads as reads
+use Rattle.routine.proofs.rows.until.Lts as lts
+
+-- src/rows.rt:158:10
+mul-rows : tie.Need-mul-rows
+mul-rows c = search needs
+
+-- src/rows.rt:158:10
+add-rows : tie.Need-add-rows
+add-rows c = search needs
+
+-- src/rows.rt:158:5
+mul-rows-2 : tie.Need-mul-rows-2
+mul-rows-2 c = search needs
+
+-- src/rows.rt:158:5
+element-write-rows : tie.Need-element-write-rows
+element-write-rows c = search needs
+
+-- src/rows.rt:154:1
+returns : tie.Need-returns
+returns c = ?
+
+pub until-spec : {M : Type 1} → statement M
+until-spec = tie.close (tie.spec mul-rows add-rows mul-rows-2 element-write-rows returns)

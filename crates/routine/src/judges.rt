@@ -1,0 +1,47 @@
+// JUDGE: whether a process may take a step.
+ghost use mathlib.Core.Path.{_≡_};
+ghost use Rattle.model.specs.Run;
+ghost use Rattle.model.specs.Routine.{isDecided};
+ghost use Rattle.routine.specs.Rows.{rowIn, Inside};
+use crate::rows;
+use model::Place;
+use steps::Step;
+
+fn is_decided(place: Place) -> bool
+    ensures { λ b. ⌜ b ≡ isDecided place ⌝ }
+{
+    match place {
+        Place::Rest => false,
+        Place::Look => false,
+        Place::Put => false,
+        Place::Wait => false,
+        Place::Check => false,
+        Place::Critical => false,
+        Place::Flag => false,
+        Place::Scan => false,
+        Place::Decided => true,
+    }
+}
+
+// 13 (below the last), 14, 15, 16, of a step of the process whose row is the j-th.
+pub fn judge(j: usize, rows: &[u32; 288], last: u32, step: Step) -> u32
+    requires { ⌜ Inside j ⌝ }
+    ensures { λ no. ⌜ no ≡ Run.judge (rowIn (now (rows .entry)) j) last step ⌝ }
+{
+    if step.tick < last {
+        return 13;
+    }
+    if rows::is_crashed(j, rows) {
+        return 14;
+    }
+    if step.event != 0 {
+        return 0;
+    }
+    if is_decided(rows::place(j, rows)) {
+        return 15;
+    }
+    if step.tick < rows::wake(j, rows) {
+        return 16;
+    }
+    0
+}

@@ -1,0 +1,261 @@
+// TAKE: where a process goes from its place with memory's answer, in place; a function for each place. A kind that has no such place only counts the move.
+ghost use Prim.Native.Nat.{_+_, _≤_, _<_};
+ghost use mathlib.Core.Path.{_≡_};
+ghost use mathlib.Core.Bool.{false};
+ghost use Rattle.terms.specs.Limits.{mostSlots, topTick};
+ghost use Rattle.model.specs.Bounds.{Sound, Room};
+ghost use Rattle.model.specs.Time.{wakeAt};
+ghost use Rattle.model.specs.declared.Place.{Place};
+ghost use Rattle.model.specs.Routine.{slots, counted, scanAt, scanFrom};
+ghost use Rattle.routine.specs.Rows.{rowIn, Inside, Changed, Uncounted, taken, Takes};
+use crate::rows;
+use model::Kind;
+use model::Place;
+use model::Shape;
+
+// The slots that a lock's process takes: when it leaves rest, when it finds its slot filled, when it loses its check.
+
+fn leave(shape: Shape, j: usize, rows: &[u32; 288]) -> u32
+    requires { ⌜ Inside j ⌝ }
+    ensures { λ c. ⌜ c ≡ slots shape (rowIn (now (rows .entry)) j .local) .leave ⌝ }
+{
+    rows::slot(j, rows).0
+}
+
+// The next slot round, without its division for a slot that there is.
+fn filled(shape: Shape, j: usize, rows: &[u32; 288]) -> u32
+    requires { ⌜ Inside j ⌝ }
+    requires { ⌜ Sound shape ⌝ }
+    requires { ⌜ rowIn (now rows) j .local .slot .0 < mostSlots ⌝ }
+    ensures { λ c. ⌜ c ≡ slots shape (rowIn (now (rows .entry)) j .local) .filled ⌝ }
+{
+    let c = rows::slot(j, rows);
+    let next = c.0 + 1;
+    if next < shape.size {
+        return next;
+    }
+    if next == shape.size {
+        return 0;
+    }
+    next % shape.size
+}
+
+fn lost(shape: Shape, j: usize, rows: &[u32; 288]) -> u32
+    requires { ⌜ Inside j ⌝ }
+    ensures { λ c. ⌜ c ≡ slots shape (rowIn (now (rows .entry)) j .local) .lost ⌝ }
+{
+    rows::slot(j, rows).0
+}
+
+// The scan goes on at value v, or ends past the last one.
+fn scan_at(size: u32, v: u32, j: usize, rows: &mut [u32; 288])
+    requires { ⌜ Inside j ⌝ }
+    requires { ⌜ Uncounted (rowIn (now rows) j) ⌝ }
+    ensures { λ _. ⌜ Changed j (λ r. counted false (scanAt size v (r .local)) r) (now (rows .entry)) (now (rows .exit)) ⌝ }
+{
+    if v <= size {
+        rows::go(false, Place::Scan, j, rows);
+        rows::scans(v, j, rows);
+        return;
+    }
+    rows::go(false, Place::Check, j, rows);
+}
+
+// From value v on, its own skipped.
+fn scan_from(size: u32, v: u32, j: usize, rows: &mut [u32; 288])
+    requires { ⌜ Inside j ⌝ }
+    requires { ⌜ Uncounted (rowIn (now rows) j) ⌝ }
+    requires { ⌜ v ≤ mostSlots + 1 ⌝ }
+    ensures { λ _. ⌜ Changed j (λ r. counted false (scanFrom size (r .own) v (r .local)) r) (now (rows .entry)) (now (rows .exit)) ⌝ }
+{
+    if v == rows::own(j, rows) {
+        scan_at(size, v + 1, j, rows);
+        return;
+    }
+    scan_at(size, v, j, rows);
+}
+
+pub fn rest(shape: Shape, j: usize, rows: &mut [u32; 288])
+    requires { ⌜ Inside j ⌝ }
+    requires { ⌜ Room shape (rowIn (now rows) j) ⌝ }
+    ensures { λ _. ⌜ Takes shape Place.Rest 0 false j (now (rows .entry)) (now (rows .exit)) ⌝ }
+{
+    let kind = shape.kind;
+    match kind {
+        Kind::Lock => {
+            let c = leave(shape, j, rows);
+            rows::go(false, Place::Look, j, rows);
+            rows::on(c, j, rows);
+        }
+        Kind::Plain => {
+            rows::count(false, j, rows);
+        }
+        Kind::Fast => {
+            rows::count(false, j, rows);
+        }
+    }
+}
+
+// The register holds v.
+pub fn look(shape: Shape, v: u32, j: usize, rows: &mut [u32; 288])
+    requires { ⌜ Inside j ⌝ }
+    requires { ⌜ Sound shape ⌝ }
+    requires { ⌜ Room shape (rowIn (now rows) j) ⌝ }
+    ensures { λ _. ⌜ Takes shape Place.Look v false j (now (rows .entry)) (now (rows .exit)) ⌝ }
+{
+    if v == 0 {
+        rows::go(false, Place::Put, j, rows);
+        return;
+    }
+    let kind = shape.kind;
+    match kind {
+        Kind::Lock => {
+            let c = filled(shape, j, rows);
+            rows::go(false, Place::Look, j, rows);
+            rows::on(c, j, rows);
+        }
+        Kind::Plain => {
+            rows::go(false, Place::Wait, j, rows);
+        }
+        Kind::Fast => {
+            scan_from(shape.size, 1, j, rows);
+        }
+    }
+}
+
+// The write was late, or done.
+pub fn put(shape: Shape, late: bool, j: usize, rows: &mut [u32; 288])
+    requires { ⌜ Inside j ⌝ }
+    requires { ⌜ Room shape (rowIn (now rows) j) ⌝ }
+    ensures { λ _. ⌜ Takes shape Place.Put 0 late j (now (rows .entry)) (now (rows .exit)) ⌝ }
+{
+    let kind = shape.kind;
+    match kind {
+        Kind::Lock => {
+            if late {
+                rows::go(true, Place::Check, j, rows);
+                return;
+            }
+            rows::go(false, Place::Wait, j, rows);
+        }
+        Kind::Plain => {
+            rows::go(late, Place::Look, j, rows);
+        }
+        Kind::Fast => {
+            rows::go(late, Place::Look, j, rows);
+        }
+    }
+}
+
+// The wait begins at `tick`.
+pub fn wait(shape: Shape, tick: u32, j: usize, rows: &mut [u32; 288])
+    requires { ⌜ Inside j ⌝ }
+    requires { ⌜ Sound shape ⌝ }
+    requires { ⌜ Room shape (rowIn (now rows) j) ⌝ }
+    requires { ⌜ tick ≤ topTick ⌝ }
+    ensures { λ _. ⌜ Changed j (taken shape Place.Wait (wakeAt (shape .delta) tick) 0 false) (now (rows .entry)) (now (rows .exit)) ⌝ }
+{
+    rows::go(false, Place::Check, j, rows);
+    rows::until(tick + shape.delta + 1, j, rows);
+}
+
+// The register holds v.
+pub fn check(shape: Shape, v: u32, j: usize, rows: &mut [u32; 288])
+    requires { ⌜ Inside j ⌝ }
+    requires { ⌜ Room shape (rowIn (now rows) j) ⌝ }
+    ensures { λ _. ⌜ Takes shape Place.Check v false j (now (rows .entry)) (now (rows .exit)) ⌝ }
+{
+    let kind = shape.kind;
+    match kind {
+        Kind::Lock => {
+            if v == rows::own(j, rows) {
+                rows::go(false, Place::Critical, j, rows);
+                return;
+            }
+            let c = lost(shape, j, rows);
+            rows::go(false, Place::Look, j, rows);
+            rows::on(c, j, rows);
+        }
+        Kind::Plain => {
+            rows::go(false, Place::Decided, j, rows);
+            rows::decides(v, j, rows);
+        }
+        Kind::Fast => {
+            rows::go(false, Place::Decided, j, rows);
+            rows::decides(v, j, rows);
+        }
+    }
+}
+
+// The write that empties the slot was late, or done.
+pub fn critical(shape: Shape, late: bool, j: usize, rows: &mut [u32; 288])
+    requires { ⌜ Inside j ⌝ }
+    requires { ⌜ Room shape (rowIn (now rows) j) ⌝ }
+    ensures { λ _. ⌜ Takes shape Place.Critical 0 late j (now (rows .entry)) (now (rows .exit)) ⌝ }
+{
+    let kind = shape.kind;
+    match kind {
+        Kind::Lock => {
+            rows::go(late, Place::Rest, j, rows);
+        }
+        Kind::Plain => {
+            rows::count(late, j, rows);
+        }
+        Kind::Fast => {
+            rows::count(late, j, rows);
+        }
+    }
+}
+
+pub fn flag(shape: Shape, j: usize, rows: &mut [u32; 288])
+    requires { ⌜ Inside j ⌝ }
+    requires { ⌜ Room shape (rowIn (now rows) j) ⌝ }
+    ensures { λ _. ⌜ Takes shape Place.Flag 0 false j (now (rows .entry)) (now (rows .exit)) ⌝ }
+{
+    let kind = shape.kind;
+    match kind {
+        Kind::Lock => {
+            rows::count(false, j, rows);
+        }
+        Kind::Plain => {
+            rows::count(false, j, rows);
+        }
+        Kind::Fast => {
+            rows::go(false, Place::Look, j, rows);
+        }
+    }
+}
+
+// The flag is v: 1 or 0.
+pub fn scan(shape: Shape, v: u32, j: usize, rows: &mut [u32; 288])
+    requires { ⌜ Inside j ⌝ }
+    requires { ⌜ Room shape (rowIn (now rows) j) ⌝ }
+    ensures { λ _. ⌜ Takes shape Place.Scan v false j (now (rows .entry)) (now (rows .exit)) ⌝ }
+{
+    let kind = shape.kind;
+    match kind {
+        Kind::Lock => {
+            rows::count(false, j, rows);
+        }
+        Kind::Plain => {
+            rows::count(false, j, rows);
+        }
+        Kind::Fast => {
+            if v == 0 {
+                let next = rows::scan(j, rows) + 1;
+                scan_from(shape.size, next, j, rows);
+                return;
+            }
+            rows::go(false, Place::Wait, j, rows);
+        }
+    }
+}
+
+// A process that has decided stays where it is.
+pub fn decided(shape: Shape, j: usize, rows: &mut [u32; 288])
+    requires { ⌜ Inside j ⌝ }
+    requires { ⌜ Room shape (rowIn (now rows) j) ⌝ }
+    ensures { λ _. ⌜ Takes shape Place.Decided 0 false j (now (rows .entry)) (now (rows .exit)) ⌝ }
+{
+    rows::count(false, j, rows);
+}
