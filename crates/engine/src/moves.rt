@@ -6,7 +6,7 @@ ghost use lib.ListN.{getD};
 ghost use Rattle.terms.specs.Limits.{mostSlots, topTick};
 ghost use Rattle.bank.specs.Registers.{bankOf};
 ghost use Rattle.model.specs.Bounds.{Sound, Room};
-ghost use Rattle.routine.specs.Rows.{rowIn, Inside};
+ghost use Rattle.routine.specs.Rows.{rowIn, Inside, Whole};
 ghost use Rattle.engine.specs.Stepped.{Numbered, Due, sharedOf, Moved, Stepped};
 use bank::registers;
 use model::Place;
@@ -43,6 +43,7 @@ fn make_move(
     requires { ⌜ Numbered i ⌝ }
     requires { ⌜ tick ≤ topTick ⌝ }
     requires { ⌜ Inside j ⌝ }
+    requires { ⌜ Whole (now rows) ⌝ }
     requires { ⌜ Room shape (rowIn (now rows) j) ⌝ }
     ensures { λ _. ⌜ Moved shape i tick j (now (rows .entry)) (now (rows .exit))
         (bankOf (now (values .entry)) (now (deadlines .entry)) (now (last .entry))) (bankOf (now (values .exit)) (now (deadlines .exit)) (now (last .exit)))
@@ -103,6 +104,7 @@ pub fn take_step(
     requires { ⌜ Sound shape ⌝ }
     requires { ⌜ Due step ⌝ }
     requires { ⌜ Inside j ⌝ }
+    requires { ⌜ Whole (now rows) ⌝ }
     requires { ⌜ Room shape (rowIn (now rows) j) ⌝ }
     ensures { λ _. ⌜ Stepped shape step j (now (rows .entry)) (now (rows .exit))
         (bankOf (now (values .entry)) (now (deadlines .entry)) (now (last .entry))) (bankOf (now (values .exit)) (now (deadlines .exit)) (now (last .exit)))

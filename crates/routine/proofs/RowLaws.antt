@@ -13,7 +13,7 @@ use Rattle.terms.specs.Limits.{mostProcesses}
 use Rattle.model.specs.declared.Place.{Place}
 use Rattle.model.specs.declared.Row.{Row}
 use Rattle.model.specs.Report.{shownOf}
-use Rattle.routine.specs.Rows.{Inside, placeOf, position, numberAt, rowWith, rowIn, Changed}
+use Rattle.routine.specs.Rows.{Inside, Whole, placeOf, position, numberAt, rowWith, rowIn, Changed}
 
 -- a place's number is its own
 pub place-shown : (p : Place) → placeOf (shownOf p) ≡ p
@@ -56,14 +56,14 @@ apart j k f g hj hk hf hg h = by (eqb f 8) (eqb g 8) refl refl
     by false false p q e = let n = eqb-false f 8 p in let m = eqb-false g 8 q in h (omega arith, omega arith)
 
 module _ (s : List ℕ) (j f v : ℕ) (inside : Inside j) (few : f < 9) where
-  there : length s ≡ 288 → position j f < length s
+  there : Whole s → position j f < length s
   there long = by (eqb f 8) refl
     where
       by : (b : Bool) → eqb f 8 ≡ b → position j f < length s
       by true e = rw (e, long) (omega arith)
       by false e = rw (e, long) (omega (arith, eqb-false f 8 e))
 
-  written : length s ≡ 288 → (g : ℕ) → g < 9 → numberAt (set s (position j f) v) j g ≡ put f v (numberAt s j) g
+  written : Whole s → (g : ℕ) → g < 9 → numberAt (set s (position j f) v) j g ≡ put f v (numberAt s j) g
   written long g h = by (eqb g f) refl
     where
       by : (b : Bool) → eqb g f ≡ b → numberAt (set s (position j f) v) j g ≡ cond b v (numberAt s j g)
@@ -90,5 +90,5 @@ module _ {j : ℕ} {g h : Row → Row} {a b : List ℕ} where
         others = λ k i n. y .others k i n ∙ x .others k i n;
       }
 
-  pub told-as : Changed j g a b → g (rowIn a j) ≡ h (rowIn a j) → Changed j h a b
-  told-as x e = record { long = x .long; row = λ l. x .row l ∙ e; others = x .others }
+  pub told-as : Changed j g a b → (Whole a → g (rowIn a j) ≡ h (rowIn a j)) → Changed j h a b
+  told-as x e = record { long = x .long; row = λ l. x .row l ∙ e l; others = x .others }

@@ -17,6 +17,10 @@ use Rattle.model.specs.Routine.{rowAfter}
 abbrev pub Inside : ℕ → Type 0
 Inside j = j < mostProcesses
 
+-- all numbers of all rows
+abbrev pub Whole : List ℕ → Type 0
+Whole s = length s ≡ 288
+
 -- the place with a number
 abbrev pub placeOf : ℕ → Place
 placeOf n =
@@ -59,10 +63,10 @@ rowsFrom (suc n) j s = rowIn s j ∷ rowsFrom n (suc j) s
 abbrev pub rowsIn : List ℕ → List Row
 rowsIn s = rowsFrom mostProcesses 0 s
 
--- of the rows only row j is another: what g makes of it, where all numbers are there
+-- of the rows only row j is another: what g makes of it
 pub record Changed (j : ℕ) (g : Row → Row) (old new : List ℕ) : Type 0 where
   pub long : length new ≡ length old
-  pub row : length old ≡ 288 → rowIn new j ≡ g (rowIn old j)
+  pub row : Whole old → rowIn new j ≡ g (rowIn old j)
   pub others : (k : ℕ) → Inside k → (k ≡ j → ⊥) → rowIn new k ≡ rowIn old k
 
 -- one move more can be counted

@@ -135,7 +135,7 @@ pub fn is_crashed(j: usize, rows: &[u32; 288]) -> bool
 
 // WRITE: at another place; at another slot; with a wait that ends at `wake`; with a decision; with the next value of a scan; with another value to write.
 
-fn to(place: Place, j: usize, rows: &mut [u32; 288])
+pub fn to(place: Place, j: usize, rows: &mut [u32; 288])
     requires { ⌜ Inside j ⌝ }
     ensures { λ _. ⌜ Changed j (turn (Rattle.model.specs.Routine.to place)) (now (rows .entry)) (now (rows .exit)) ⌝ }
 {
@@ -187,16 +187,6 @@ pub fn count(late: bool, j: usize, rows: &mut [u32; 288])
     if late {
         rows[j * 8 + LATES] = rows[j * 8 + LATES] + 1;
     }
-}
-
-// A move to `place`, counted.
-pub fn go(late: bool, place: Place, j: usize, rows: &mut [u32; 288])
-    requires { ⌜ Inside j ⌝ }
-    requires { ⌜ Uncounted (rowIn (now rows) j) ⌝ }
-    ensures { λ _. ⌜ Changed j (λ r. counted late (Rattle.model.specs.Routine.to place (r .local)) r) (now (rows .entry)) (now (rows .exit)) ⌝ }
-{
-    count(late, j, rows);
-    to(place, j, rows);
 }
 
 pub fn crash(j: usize, rows: &mut [u32; 288])

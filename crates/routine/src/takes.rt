@@ -6,8 +6,8 @@ ghost use Rattle.terms.specs.Limits.{mostSlots, topTick};
 ghost use Rattle.model.specs.Bounds.{Sound, Room};
 ghost use Rattle.model.specs.Time.{wakeAt};
 ghost use Rattle.model.specs.declared.Place.{Place};
-ghost use Rattle.model.specs.Routine.{slots, counted, scanAt, scanFrom};
-ghost use Rattle.routine.specs.Rows.{rowIn, Inside, Changed, Uncounted, taken, Takes};
+ghost use Rattle.model.specs.Routine.{slots, scanAt, scanFrom};
+ghost use Rattle.routine.specs.Rows.{rowIn, Inside, Whole, Changed, turn, taken, Takes};
 use crate::rows;
 use model::Kind;
 use model::Place;
@@ -50,23 +50,21 @@ fn lost(shape: Shape, j: usize, rows: &[u32; 288]) -> u32
 // The scan goes on at value v, or ends past the last one.
 fn scan_at(size: u32, v: u32, j: usize, rows: &mut [u32; 288])
     requires { ⌜ Inside j ⌝ }
-    requires { ⌜ Uncounted (rowIn (now rows) j) ⌝ }
-    ensures { λ _. ⌜ Changed j (λ r. counted false (scanAt size v (r .local)) r) (now (rows .entry)) (now (rows .exit)) ⌝ }
+    ensures { λ _. ⌜ Changed j (turn (scanAt size v)) (now (rows .entry)) (now (rows .exit)) ⌝ }
 {
     if v <= size {
-        rows::go(false, Place::Scan, j, rows);
+        rows::to(Place::Scan, j, rows);
         rows::scans(v, j, rows);
         return;
     }
-    rows::go(false, Place::Check, j, rows);
+    rows::to(Place::Check, j, rows);
 }
 
 // From value v on, its own skipped.
 fn scan_from(size: u32, v: u32, j: usize, rows: &mut [u32; 288])
     requires { ⌜ Inside j ⌝ }
-    requires { ⌜ Uncounted (rowIn (now rows) j) ⌝ }
     requires { ⌜ v ≤ mostSlots + 1 ⌝ }
-    ensures { λ _. ⌜ Changed j (λ r. counted false (scanFrom size (r .own) v (r .local)) r) (now (rows .entry)) (now (rows .exit)) ⌝ }
+    ensures { λ _. ⌜ Changed j (λ r. turn (scanFrom size (r .own) v) r) (now (rows .entry)) (now (rows .exit)) ⌝ }
 {
     if v == rows::own(j, rows) {
         scan_at(size, v + 1, j, rows);
@@ -80,42 +78,41 @@ pub fn rest(shape: Shape, j: usize, rows: &mut [u32; 288])
     requires { ⌜ Room shape (rowIn (now rows) j) ⌝ }
     ensures { λ _. ⌜ Takes shape Place.Rest 0 false j (now (rows .entry)) (now (rows .exit)) ⌝ }
 {
+    rows::count(false, j, rows);
     let kind = shape.kind;
     match kind {
         Kind::Lock => {
             let c = leave(shape, j, rows);
-            rows::go(false, Place::Look, j, rows);
+            rows::to(Place::Look, j, rows);
             rows::on(c, j, rows);
         }
-        Kind::Plain => {
-            rows::count(false, j, rows);
-        }
-        Kind::Fast => {
-            rows::count(false, j, rows);
-        }
+        Kind::Plain => {}
+        Kind::Fast => {}
     }
 }
 
 // The register holds v.
 pub fn look(shape: Shape, v: u32, j: usize, rows: &mut [u32; 288])
     requires { ⌜ Inside j ⌝ }
+    requires { ⌜ Whole (now rows) ⌝ }
     requires { ⌜ Sound shape ⌝ }
     requires { ⌜ Room shape (rowIn (now rows) j) ⌝ }
     ensures { λ _. ⌜ Takes shape Place.Look v false j (now (rows .entry)) (now (rows .exit)) ⌝ }
 {
+    rows::count(false, j, rows);
     if v == 0 {
-        rows::go(false, Place::Put, j, rows);
+        rows::to(Place::Put, j, rows);
         return;
     }
     let kind = shape.kind;
     match kind {
         Kind::Lock => {
             let c = filled(shape, j, rows);
-            rows::go(false, Place::Look, j, rows);
+            rows::to(Place::Look, j, rows);
             rows::on(c, j, rows);
         }
         Kind::Plain => {
-            rows::go(false, Place::Wait, j, rows);
+            rows::to(Place::Wait, j, rows);
         }
         Kind::Fast => {
             scan_from(shape.size, 1, j, rows);
@@ -129,20 +126,21 @@ pub fn put(shape: Shape, late: bool, j: usize, rows: &mut [u32; 288])
     requires { ⌜ Room shape (rowIn (now rows) j) ⌝ }
     ensures { λ _. ⌜ Takes shape Place.Put 0 late j (now (rows .entry)) (now (rows .exit)) ⌝ }
 {
+    rows::count(late, j, rows);
     let kind = shape.kind;
     match kind {
         Kind::Lock => {
             if late {
-                rows::go(true, Place::Check, j, rows);
+                rows::to(Place::Check, j, rows);
                 return;
             }
-            rows::go(false, Place::Wait, j, rows);
+            rows::to(Place::Wait, j, rows);
         }
         Kind::Plain => {
-            rows::go(late, Place::Look, j, rows);
+            rows::to(Place::Look, j, rows);
         }
         Kind::Fast => {
-            rows::go(late, Place::Look, j, rows);
+            rows::to(Place::Look, j, rows);
         }
     }
 }
@@ -155,7 +153,8 @@ pub fn wait(shape: Shape, tick: u32, j: usize, rows: &mut [u32; 288])
     requires { ⌜ tick ≤ topTick ⌝ }
     ensures { λ _. ⌜ Changed j (taken shape Place.Wait (wakeAt (shape .delta) tick) 0 false) (now (rows .entry)) (now (rows .exit)) ⌝ }
 {
-    rows::go(false, Place::Check, j, rows);
+    rows::count(false, j, rows);
+    rows::to(Place::Check, j, rows);
     rows::until(tick + shape.delta + 1, j, rows);
 }
 
@@ -165,23 +164,24 @@ pub fn check(shape: Shape, v: u32, j: usize, rows: &mut [u32; 288])
     requires { ⌜ Room shape (rowIn (now rows) j) ⌝ }
     ensures { λ _. ⌜ Takes shape Place.Check v false j (now (rows .entry)) (now (rows .exit)) ⌝ }
 {
+    rows::count(false, j, rows);
     let kind = shape.kind;
     match kind {
         Kind::Lock => {
             if v == rows::own(j, rows) {
-                rows::go(false, Place::Critical, j, rows);
+                rows::to(Place::Critical, j, rows);
                 return;
             }
             let c = lost(shape, j, rows);
-            rows::go(false, Place::Look, j, rows);
+            rows::to(Place::Look, j, rows);
             rows::on(c, j, rows);
         }
         Kind::Plain => {
-            rows::go(false, Place::Decided, j, rows);
+            rows::to(Place::Decided, j, rows);
             rows::decides(v, j, rows);
         }
         Kind::Fast => {
-            rows::go(false, Place::Decided, j, rows);
+            rows::to(Place::Decided, j, rows);
             rows::decides(v, j, rows);
         }
     }
@@ -193,17 +193,14 @@ pub fn critical(shape: Shape, late: bool, j: usize, rows: &mut [u32; 288])
     requires { ⌜ Room shape (rowIn (now rows) j) ⌝ }
     ensures { λ _. ⌜ Takes shape Place.Critical 0 late j (now (rows .entry)) (now (rows .exit)) ⌝ }
 {
+    rows::count(late, j, rows);
     let kind = shape.kind;
     match kind {
         Kind::Lock => {
-            rows::go(late, Place::Rest, j, rows);
+            rows::to(Place::Rest, j, rows);
         }
-        Kind::Plain => {
-            rows::count(late, j, rows);
-        }
-        Kind::Fast => {
-            rows::count(late, j, rows);
-        }
+        Kind::Plain => {}
+        Kind::Fast => {}
     }
 }
 
@@ -212,16 +209,13 @@ pub fn flag(shape: Shape, j: usize, rows: &mut [u32; 288])
     requires { ⌜ Room shape (rowIn (now rows) j) ⌝ }
     ensures { λ _. ⌜ Takes shape Place.Flag 0 false j (now (rows .entry)) (now (rows .exit)) ⌝ }
 {
+    rows::count(false, j, rows);
     let kind = shape.kind;
     match kind {
-        Kind::Lock => {
-            rows::count(false, j, rows);
-        }
-        Kind::Plain => {
-            rows::count(false, j, rows);
-        }
+        Kind::Lock => {}
+        Kind::Plain => {}
         Kind::Fast => {
-            rows::go(false, Place::Look, j, rows);
+            rows::to(Place::Look, j, rows);
         }
     }
 }
@@ -229,24 +223,22 @@ pub fn flag(shape: Shape, j: usize, rows: &mut [u32; 288])
 // The flag is v: 1 or 0.
 pub fn scan(shape: Shape, v: u32, j: usize, rows: &mut [u32; 288])
     requires { ⌜ Inside j ⌝ }
+    requires { ⌜ Whole (now rows) ⌝ }
     requires { ⌜ Room shape (rowIn (now rows) j) ⌝ }
     ensures { λ _. ⌜ Takes shape Place.Scan v false j (now (rows .entry)) (now (rows .exit)) ⌝ }
 {
+    rows::count(false, j, rows);
     let kind = shape.kind;
     match kind {
-        Kind::Lock => {
-            rows::count(false, j, rows);
-        }
-        Kind::Plain => {
-            rows::count(false, j, rows);
-        }
+        Kind::Lock => {}
+        Kind::Plain => {}
         Kind::Fast => {
             if v == 0 {
                 let next = rows::scan(j, rows) + 1;
                 scan_from(shape.size, next, j, rows);
                 return;
             }
-            rows::go(false, Place::Wait, j, rows);
+            rows::to(Place::Wait, j, rows);
         }
     }
 }

@@ -5,11 +5,11 @@ use Rattle.routine.proofs.takes.decided.Reads as reads
 use Rattle.routine.proofs.takes.decided.Lts as lts
 use Rattle.routine.proofs.rows.count.Reads as count-reads
 
--- src/takes.rt:260:5
+-- src/takes.rt:252:5
 count-requires : tie.Need-count-requires
 count-requires c κs = search needs
 
--- src/takes.rt:255:1
+-- src/takes.rt:247:1
 returns : tie.Need-returns
 returns c = ?
 
