@@ -1,3 +1,8 @@
+use Rattle.routine.proofs.RowLaws.{changed}
+use Rattle.routine.specs.Rows.{rowIn, turn, owning}
+use denote.Ref.{now}
+use native.Mathlib.Omega.{arith}
+use mathlib.Core.Path.{refl}
 use borrow.Author.Needs.{needs}
 use Rattle.routine.proofs.rows.owns.Statement.{statement}
 use Rattle.routine.proofs.rows.owns.Tie as tie
@@ -22,7 +27,8 @@ element-write-rows c = search needs
 
 -- src/rows.rt:175:1
 returns : tie.Need-returns
-returns c = ?
+unfolding rowIn
+returns c = let a = c .args in changed (now (a .rows)) (a .j) 2 (a .v) (c .pre) (omega arith) (owning (a .v)) refl
 
 pub owns-spec : {M : Type 1} → statement M
 owns-spec = tie.close (tie.spec mul-rows add-rows mul-rows-2 element-write-rows returns)

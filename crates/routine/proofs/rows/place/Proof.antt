@@ -1,3 +1,5 @@
+use Rattle.routine.specs.Rows.{rowIn}
+use mathlib.Core.Path.{refl}
 use borrow.Author.Needs.{needs}
 use Rattle.routine.proofs.rows.place.Statement.{statement}
 use Rattle.routine.proofs.rows.place.Tie as tie
@@ -27,7 +29,8 @@ place-of-requires c κs = search needs
 
 -- src/rows.rt:75:1
 returns : tie.Need-returns
-returns c = ?
+unfolding rowIn
+returns c = c .place-of .ensures
 
 pub place-spec : {M : Type 1} → statement M
 place-spec =

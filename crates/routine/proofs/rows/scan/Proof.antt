@@ -1,3 +1,5 @@
+use Rattle.routine.specs.Rows.{rowIn}
+use mathlib.Core.Path.{refl}
 use borrow.Author.Needs.{needs}
 use Rattle.routine.proofs.rows.scan.Statement.{statement}
 use Rattle.routine.proofs.rows.scan.Tie as tie
@@ -22,7 +24,8 @@ element-copy-out-result c = search needs
 
 -- src/rows.rt:103:1
 returns : tie.Need-returns
-returns c = ?
+unfolding rowIn
+returns c = refl
 
 pub scan-spec : {M : Type 1} → statement M
 scan-spec = tie.close (tie.spec mul-result add-result mul-result-2 element-copy-out-result returns)

@@ -1,3 +1,9 @@
+use Rattle.model.specs.Routine.{scans}
+use Rattle.routine.proofs.RowLaws.{changed}
+use Rattle.routine.specs.Rows.{rowIn, turn, owning}
+use denote.Ref.{now}
+use native.Mathlib.Omega.{arith}
+use mathlib.Core.Path.{refl}
 use borrow.Author.Needs.{needs}
 use Rattle.routine.proofs.rows.scans.Statement.{statement}
 use Rattle.routine.proofs.rows.scans.Tie as tie
@@ -22,7 +28,8 @@ element-write-rows c = search needs
 
 -- src/rows.rt:168:1
 returns : tie.Need-returns
-returns c = ?
+unfolding rowIn
+returns c = let a = c .args in changed (now (a .rows)) (a .j) 4 (a .v) (c .pre) (omega arith) (turn (scans (a .v))) refl
 
 pub scans-spec : {M : Type 1} → statement M
 scans-spec = tie.close (tie.spec mul-rows add-rows mul-rows-2 element-write-rows returns)

@@ -1,3 +1,5 @@
+use Rattle.routine.specs.Rows.{rowIn}
+use mathlib.Core.Path.{refl}
 use borrow.Author.Needs.{needs}
 use Rattle.routine.proofs.rows.slot.Statement.{statement}
 use Rattle.routine.proofs.rows.slot.Tie as tie
@@ -22,7 +24,8 @@ element-copy-out-t8 c = search needs
 
 -- src/rows.rt:82:1
 returns : tie.Need-returns
-returns c = ?
+unfolding rowIn
+returns c = refl
 
 pub slot-spec : {M : Type 1} → statement M
 slot-spec = tie.close (tie.spec mul-t3 add-t4 mul-t5 element-copy-out-t8 returns)
