@@ -8,7 +8,6 @@ ghost use Rattle.bank.specs.Registers.{bankOf};
 ghost use Rattle.model.specs.Bounds.{AskFits};
 ghost use Rattle.model.specs.Memory.{answerOf};
 ghost use Rattle.engine.specs.Stepped.{Numbered, sharedOf};
-use bank::registers;
 use model::Ask;
 use model::Reply;
 use terms::ProcessNumber;

@@ -2,6 +2,7 @@
 -- Assumes nothing.
 use Rattle.engine.proofs.StepLaws.{answeredRead, answeredWrite}
 use Rattle.engine.specs.Stepped.{sharedOf}
+use Rattle.bank.specs.Registers.{afterRead, afterWrite}
 use Rattle.model.specs.Bounds.{AskFits}
 use denote.Ref.{now}
 use native.Mathlib.Omega.{arith}
@@ -31,9 +32,11 @@ returns : tie.Need-returns
 returns c = rw (c .enum-told .given .1)
 
 returns-2 : tie.Need-returns-2
-returns-2 c = rw (c .before .before .before .before .before .q .given .1) (ap (answeredRead (sharedOf (now (c .before .before .before .before .before .before .before .args .flags)))) (c .read-granted .ensures))
+unfolding afterRead
+returns-2 c = rw (c .before .before .before .before .before .q .given .1) (ap (answeredRead (now (c .before .before .before .before .before .before .before .args .values)) (sharedOf (now (c .before .before .before .before .before .before .before .args .flags)))) (c .read-granted .ensures))
 
 returns-3 : tie.Need-returns-3
+unfolding afterWrite
 returns-3 c = rw (c .before .before .before .before .before .q2 .given .1) (ap (answeredWrite (sharedOf (now (c .before .before .before .before .before .before .before .args .flags)))) (c .write-granted .ensures))
 
 returns-4 : tie.Need-returns-4
