@@ -17,7 +17,7 @@ use Rattle.answers.specs.declared.ReadAnswer.{ReadAnswer}
 use Rattle.answers.specs.declared.WriteAnswer.{WriteAnswer}
 use Rattle.refusals.specs.Refusals.{callRefusal, readRefusal}
 use Rattle.refusals.proofs.Accepted.{accepted-good, read-accepted-good}
-use Rattle.registers.specs.Deadlines.{pairOf, due}
+use Rattle.registers.specs.Deadlines.{pairOf, due, writeGranted}
 use Rattle.registers.proofs.Pairs.{pair-below, pair-same}
 use Rattle.bank.specs.declared.Bank.{Bank}
 use Rattle.bank.specs.Registers.{bankOf, valueAt, deadlineAt, lateAt, afterRead, afterWrite}
@@ -28,7 +28,7 @@ use Rattle.bank.proofs.Outcomes.{read-refused, read-given, write-refuse
 -- The values that an accepted call leaves.
 abbrev pub valuesAfter : Bank → Call → List ℕ
 valuesAfter b (Call.reading i c t d) = b .values
-valuesAfter b (Call.writing i c t v) = cond (lateAt b i c t) (b .values) (set (b .values) (c .0) v)
+valuesAfter b (Call.writing i c t v) = writeGranted (b .values) (b .deadlines) i c t v .values
 
 pub accepted-call-has-a-pair : (last : ℕ) (k : Call) → refusalAt last k ≡ 0 → IsPair (caller k) (register k)
 accepted-call-has-a-pair last (Call.reading i c t d) h = accepted-good last i c t (read-accepted-good last i c t d h .0) .0

@@ -35,7 +35,7 @@ module _ (last : ℕ) (i : ProcessNumber) (c : SlotNumber) (t d r : ℕ) (known 
   pub read-wait : IsWait d
   read-wait = read-accepted-good last i c t d (sym known ∙ h) .1
 
--- A call of a bank b, by its refusal r: refused, or what the deadline rule gives.
+-- A call of a bank, by its refusal r: refused, or what the deadline rule gives. A read's bank is given by its parts: it leaves one of them.
 module _ (values deadlines : List ℕ) (last : ℕ) (i : ProcessNumber) (c : SlotNumber) (t d r : ℕ) (known : r ≡ readRefusal last i c t d) where
   pub read-refused : (r ≡ 0 → ⊥) → record { bank = bankOf values deadlines last; answer = ReadAnswer.Refused r } ≡ readOf (bankOf values deadlines last) i c t d
   unfolding readOf
@@ -57,8 +57,7 @@ module _ (b : Bank) (i : ProcessNumber) (c : SlotNumber) (t v r : ℕ) (known : 
       (e : record { late = l; values = values; deadlines = deadlines; last = last } ≡ writeGranted (b .values) (b .deadlines) i c t v) where
     pub write-given : record { bank = bankOf values deadlines last; answer = written l } ≡ writeOf b i c t v
     unfolding writeOf afterWrite
-    write-given =
-        rw (← known, h) (ap (λ (s : Stored). record { bank = bankStored s; answer = written (s .late) }) e)
+    write-given = rw (← known, h) (ap (λ (s : Stored). record { bank = bankStored s; answer = written (s .late) }) e)
 
     pub given-late : l ≡ true → record { bank = bankOf values deadlines last; answer = WriteAnswer.Late } ≡ writeOf b i c t v
     given-late k = rw k at write-given
