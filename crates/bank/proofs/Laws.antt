@@ -17,35 +17,38 @@ use Rattle.answers.specs.declared.ReadAnswer.{ReadAnswer}
 use Rattle.answers.specs.declared.WriteAnswer.{WriteAnswer}
 use Rattle.refusals.specs.Refusals.{callRefusal, readRefusal}
 use Rattle.refusals.proofs.Accepted.{accepted-good, read-accepted-good}
+use Rattle.registers.specs.Deadlines.{pairOf, due, writeGranted}
+use Rattle.registers.proofs.Pairs.{pair-below, pair-same}
 use Rattle.bank.specs.declared.Bank.{Bank}
-use Rattle.bank.specs.Registers.{bankOf, pairOf, valueAt, deadlineAt, due, lateAt, afterRead, afterWrite}
+use Rattle.bank.specs.Registers.{bankOf, valueAt, deadlineAt, lateAt, afterRead, afterWrite}
 use Rattle.bank.specs.Calls.{readOf, written, writeOf}
 use Rattle.bank.specs.History.{Call, caller, register, tickOf, leaves, refusalAt, after, Elsewhere, NotWrite, Sized}
-use Rattle.bank.proofs.Pairs.{pair-below, pair-same}
 use Rattle.bank.proofs.Outcomes.{read-refused, read-given, write-refused, write-given}
 
 -- The values that an accepted call leaves.
 abbrev pub valuesAfter : Bank → Call → List ℕ
 valuesAfter b (Call.reading i c t d) = b .values
-valuesAfter b (Call.writing i c t v) = cond (lateAt b i c t) (b .values) (set (b .values) (c .0) v)
+valuesAfter b (Call.writing i c t v) = writeGranted (b .values) (b .deadlines) i c t v .values
 
 pub accepted-call-has-a-pair : (last : ℕ) (k : Call) → refusalAt last k ≡ 0 → IsPair (caller k) (register k)
 accepted-call-has-a-pair last (Call.reading i c t d) h = accepted-good last i c t (read-accepted-good last i c t d h .0) .0
 accepted-call-has-a-pair last (Call.writing i c t v) h = accepted-good last i c t h .0
 
 pub refused-call-changes-nothing : (b : Bank) (k : Call) → (refusalAt (b .last) k ≡ 0 → ⊥) → after b k ≡ b
-refused-call-changes-nothing b (Call.reading i c t d) h = λ x. sym (read-refused b i c t d (readRefusal (b .last) i c t d) refl h) x .bank
+refused-call-changes-nothing b (Call.reading i c t d) h = λ x. sym (read-refused (b .values) (b .deadlines) (b .last) i c t d (readRefusal (b .last) i c t d) refl h) x .bank
 refused-call-changes-nothing b (Call.writing i c t v) h = λ x. sym (write-refused b i c t v (callRefusal (b .last) i c t) refl h) x .bank
 
 -- the result of an accepted read, and of an accepted write
 module _ (b : Bank) (i : ProcessNumber) (c : SlotNumber) (t : ℕ) where
   read-result : (d : ℕ) → readRefusal (b .last) i c t d ≡ 0
       → readOf b i c t d ≡ record { bank = afterRead b i c t d; answer = ReadAnswer.Value (valueAt b c) }
-  read-result d h = sym (read-given b i c t d (readRefusal (b .last) i c t d) refl h (afterRead b i c t d) (valueAt b c) refl)
+  unfolding afterRead
+  read-result d h = sym (read-given (b .values) (b .deadlines) (b .last) i c t d (readRefusal (b .last) i c t d) refl h _ _ _ refl)
 
   write-result : (v : ℕ) → callRefusal (b .last) i c t ≡ 0
       → writeOf b i c t v ≡ record { bank = afterWrite b i c t v; answer = written (lateAt b i c t) }
-  write-result v h = sym (write-given b i c t v (callRefusal (b .last) i c t) refl h (afterWrite b i c t v) (lateAt b i c t) refl)
+  unfolding afterWrite
+  write-result v h = sym (write-given b i c t v (callRefusal (b .last) i c t) refl h _ _ _ _ refl)
 
 pub accepted-call-result : (b : Bank) (k : Call) → refusalAt (b .last) k ≡ 0
     → after b k ≡ bankOf (valuesAfter b k) (set (b .deadlines) (pairOf (caller k) (register k)) (leaves k)) (tickOf k)
@@ -111,7 +114,7 @@ module _ (b : Bank) (i : ProcessNumber) (c : SlotNumber) (t : ℕ) where
 
   pub refused-read-gives-its-number : (d : ℕ) → (readRefusal (b .last) i c t d ≡ 0 → ⊥)
       → readOf b i c t d .answer ≡ ReadAnswer.Refused (readRefusal (b .last) i c t d)
-  refused-read-gives-its-number d h = λ x. sym (read-refused b i c t d (readRefusal (b .last) i c t d) refl h) x .answer
+  refused-read-gives-its-number d h = λ x. sym (read-refused (b .values) (b .deadlines) (b .last) i c t d (readRefusal (b .last) i c t d) refl h) x .answer
 
   pub refused-write-gives-its-number : (v : ℕ) → (callRefusal (b .last) i c t ≡ 0 → ⊥)
       → writeOf b i c t v .answer ≡ WriteAnswer.Refused (callRefusal (b .last) i c t)

@@ -1,5 +1,4 @@
 pub mod Outcomes
-pub mod Pairs
 pub mod Laws
 pub mod HistoryLaws
 pub mod PlainLaws

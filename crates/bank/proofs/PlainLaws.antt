@@ -13,11 +13,12 @@ use Rattle.terms.specs.Limits.{unlimited}
 use Rattle.answers.specs.declared.WriteAnswer.{WriteAnswer}
 use Rattle.refusals.specs.Refusals.{callRefusal}
 use Rattle.refusals.proofs.Accepted.{accepted-good}
+use Rattle.registers.specs.Deadlines.{pairOf}
+use Rattle.registers.proofs.Pairs.{pair-below}
 use Rattle.bank.specs.declared.Bank.{Bank}
-use Rattle.bank.specs.Registers.{freshBank, pairOf, valueAt}
+use Rattle.bank.specs.Registers.{freshBank, valueAt}
 use Rattle.bank.specs.Calls.{writeOf}
 use Rattle.bank.specs.History.{Call, leaves, refusalAt, after, afterAll, Each, NotWrite, Limitless, Sized, Unbound, plain, plainAll}
-use Rattle.bank.proofs.Pairs.{pair-below}
 use Rattle.bank.proofs.Laws.{refused-call-changes-nothing, accepted-call-result, accepted-call-sets-last-tick, call-keeps-sizes}
 use Rattle.bank.proofs.Laws.{read-keeps-values, write-in-time-stores}
 use Rattle.bank.proofs.HistoryLaws.{call-keeps-unbound, unbound-write-is-done, value-stays-until-written}

@@ -6,7 +6,6 @@ use Rattle.terms.proofs.Settles.{Settles}
 use Rattle.bank.specs.declared.ReadResult.{ReadResult}
 use Rattle.bank.specs.declared.WriteResult.{WriteResult}
 use Rattle.bank.specs.Registers.{bankOf}
-use Rattle.bank.specs.Granted.{Seen, Stored}
 use Rattle.bank.proofs.Bank.fresh.Kinds as fresh-kinds
 use Rattle.bank.proofs.Bank.fresh.Reads as fresh-reads
 use Rattle.bank.proofs.Bank.read.Kinds as read-kinds
@@ -17,10 +16,6 @@ use Rattle.bank.proofs.calls.read_in.Kinds as read-in-kinds
 use Rattle.bank.proofs.calls.read_in.Reads as read-in-reads
 use Rattle.bank.proofs.calls.write_in.Kinds as write-in-kinds
 use Rattle.bank.proofs.calls.write_in.Reads as write-in-reads
-use Rattle.bank.proofs.registers.read_granted.Kinds as read-granted-kinds
-use Rattle.bank.proofs.registers.read_granted.Reads as read-granted-reads
-use Rattle.bank.proofs.registers.write_granted.Kinds as write-granted-kinds
-use Rattle.bank.proofs.registers.write_granted.Reads as write-granted-reads
 
 pub fresh-settles : Settles 0 fresh-kinds.ps fresh-kinds.r fresh-reads.Post
 fresh-settles κs a x y u v p q = (p ∙ sym q, refl)
@@ -40,13 +35,3 @@ pub write-in-settles : Settles 3 write-in-kinds.ps write-in-kinds.r write-in-rea
 write-in-settles κs a x y u v p q =
     let e : _≡_ {A = WriteResult} (record { bank = bankOf (u .0) (u .1 .0) (u .1 .1 .0); answer = x }) (record { bank = bankOf (v .0) (v .1 .0) (v .1 .1 .0); answer = y }) = p ∙ sym q in
     ((λ k. e k .answer), (λ k. (e k .bank .values, (e k .bank .deadlines, (e k .bank .last, (tt, (tt, (tt, (tt, tt)))))))))
-
-pub read-granted-settles : Settles 3 read-granted-kinds.ps read-granted-kinds.r read-granted-reads.Post
-read-granted-settles κs a x y u v p q =
-    let e : _≡_ {A = Seen} (record { bank = bankOf (now (a .0)) (u .1 .0) (u .1 .1 .0); value = x }) (record { bank = bankOf (now (a .0)) (v .1 .0) (v .1 .1 .0); value = y }) = p ∙ sym q in
-    ((λ k. e k .value), (λ k. (tt, (e k .bank .deadlines, (e k .bank .last, (tt, (tt, (tt, (tt, tt)))))))))
-
-pub write-granted-settles : Settles 3 write-granted-kinds.ps write-granted-kinds.r write-granted-reads.Post
-write-granted-settles κs a x y u v p q =
-    let e : _≡_ {A = Stored} (record { bank = bankOf (u .0) (u .1 .0) (u .1 .1 .0); late = x }) (record { bank = bankOf (v .0) (v .1 .0) (v .1 .1 .0); late = y }) = p ∙ sym q in
-    ((λ k. e k .late), (λ k. (e k .bank .values, (e k .bank .deadlines, (e k .bank .last, (tt, (tt, (tt, (tt, tt)))))))))

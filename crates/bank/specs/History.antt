@@ -9,8 +9,9 @@ use Rattle.terms.specs.Limits.{unlimited}
 use Rattle.terms.specs.Ranges.{IsPair}
 use Rattle.terms.specs.Refusal.{ifAccepted}
 use Rattle.refusals.specs.Refusals.{callRefusal, readRefusal}
+use Rattle.registers.specs.Deadlines.{due}
 use Rattle.bank.specs.declared.Bank.{Bank}
-use Rattle.bank.specs.Registers.{due, deadlineAt}
+use Rattle.bank.specs.Registers.{deadlineAt}
 use Rattle.bank.specs.Calls.{readOf, writeOf}
 
 -- a read with its tick and its wait, a write with its tick and its value

@@ -1,4 +1,3 @@
 pub mod Registers
 pub mod Calls
-pub mod Granted
 pub mod History

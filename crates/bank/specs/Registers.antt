@@ -1,13 +1,12 @@
--- The bank of timed registers (01, "The register bank"): the deadline rule, with no refusals.
-use Prim.Native.Nat.{ℕ, _+_, _*_}
-use mathlib.Core.Bool.{Bool, cond}
+-- The bank of timed registers (01, "The register bank"): its parts, and what the deadline rule leaves of it. `Deadlines` has the rule.
+use Prim.Native.Nat.{ℕ}
+use mathlib.Core.Bool.{Bool}
 use mathlib.Core.List.{List}
-use lib.Dec.{eqb, ltb}
-use lib.ListN.{getD, set, replicate}
+use lib.ListN.{replicate}
 use Rattle.terms.specs.declared.ProcessNumber.{ProcessNumber}
 use Rattle.terms.specs.declared.SlotNumber.{SlotNumber}
 use Rattle.terms.specs.Limits.{unlimited}
-use Rattle.terms.specs.Numbers.{indexOf}
+use Rattle.registers.specs.Deadlines.{valueIn, deadlineIn, lateIn, Seen, Stored, readGranted, writeGranted}
 use Rattle.bank.specs.declared.Bank.{Bank}
 
 -- a bank of its parts
@@ -17,29 +16,26 @@ bankOf values deadlines last = record { values = values; deadlines = deadlines; 
 unfoldable pub freshBank : Bank
 freshBank = bankOf (replicate 8 0) (replicate 256 unlimited) 0
 
--- the place of a pair among the 256 deadlines
-abbrev pub pairOf : ProcessNumber → SlotNumber → ℕ
-pairOf i c = indexOf i * 8 + c .0
-
 abbrev pub valueAt : Bank → SlotNumber → ℕ
-valueAt b c = getD (b .values) (c .0) 0
+valueAt b c = valueIn (b .values) c
 
 abbrev pub deadlineAt : Bank → ProcessNumber → SlotNumber → ℕ
-deadlineAt b i c = getD (b .deadlines) (pairOf i c) 0
+deadlineAt b i c = deadlineIn (b .deadlines) i c
 
--- the deadline that a read at tick t with the wait d sets
-abbrev pub due : ℕ → ℕ → ℕ
-due t d = cond (eqb d unlimited) unlimited (t + d)
-
--- a write at tick t is late after the pair's deadline
 abbrev pub lateAt : Bank → ProcessNumber → SlotNumber → ℕ → Bool
-lateAt b i c t = ltb (deadlineAt b i c) t
+lateAt b i c t = lateIn (b .deadlines) i c t
 
--- a read of c by i at tick t with the wait d binds the pair
+-- the bank of what a read leaves, and of what a write leaves
+abbrev pub bankSeen : List ℕ → Seen → Bank
+bankSeen values s = bankOf values (s .deadlines) (s .last)
+
+abbrev pub bankStored : Stored → Bank
+bankStored s = bankOf (s .values) (s .deadlines) (s .last)
+
+-- after a read of c by i at tick t with the wait d
 unfoldable pub afterRead : Bank → ProcessNumber → SlotNumber → ℕ → ℕ → Bank
-afterRead b i c t d = bankOf (b .values) (set (b .deadlines) (pairOf i c) (due t d)) t
+afterRead b i c t d = bankSeen (b .values) (readGranted (b .values) (b .deadlines) i c t d)
 
--- a write of v to c by i at tick t stores v unless it is late, and frees the pair either way
+-- after a write of v to c by i at tick t
 unfoldable pub afterWrite : Bank → ProcessNumber → SlotNumber → ℕ → ℕ → Bank
-afterWrite b i c t v =
-    bankOf (cond (lateAt b i c t) (b .values) (set (b .values) (c .0) v)) (set (b .deadlines) (pairOf i c) unlimited) t
+afterWrite b i c t v = bankStored (writeGranted (b .values) (b .deadlines) i c t v)

@@ -1,5 +1,4 @@
 // A read and a write as a caller meets them, over a bank whose parts are lent: refused in the order of document 01, or granted.
-use crate::registers;
 use answers::ReadAnswer;
 use answers::WriteAnswer;
 use terms::ProcessNumber;

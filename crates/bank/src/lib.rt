@@ -1,7 +1,6 @@
 // The bank of timed registers of document 01: 8 registers for 32 processes, with a deadline for each pair of process and register.
 // A bank goes in by value and comes back by value, beside the answer; `calls` has the same two calls over a bank whose parts are lent.
 pub mod calls;
-pub mod registers;
 
 use answers::ReadAnswer;
 use answers::WriteAnswer;

@@ -11,9 +11,9 @@ use Rattle.terms.specs.Limits.{mostProcesses, mostSteps, topTick}
 use Rattle.terms.specs.Numbers.{indexOf}
 use Rattle.terms.specs.Overlay.{overlay}
 use Rattle.terms.proofs.RefusalLaws.{if-accepted}
+use Rattle.registers.specs.Deadlines.{Seen, Stored}
 use Rattle.bank.specs.declared.Bank.{Bank}
-use Rattle.bank.specs.Registers.{bankOf}
-use Rattle.bank.specs.Granted.{Seen, Stored}
+use Rattle.bank.specs.Registers.{bankOf, bankSeen, bankStored}
 use Rattle.steps.specs.declared.Step.{Step}
 use Rattle.steps.specs.declared.StepRead.{StepRead}
 use Rattle.steps.specs.Step.{stepRefusal, stepFields, stepRead}
@@ -37,11 +37,11 @@ use Rattle.engine.specs.Stepped.{Due, sharedOf, stepAnswer, stepRow, ran
 -- ONE STEP
 
 -- a read and a write of the bank, as memory's answer
-abbrev pub answeredRead : Shared → Seen → Answered
-answeredRead m x = record { reply = record { value = x .value; late = false }; bank = x .bank; shared = m }
+abbrev pub answeredRead : List ℕ → Shared → Seen → Answered
+answeredRead values m x = record { reply = record { value = x .value; late = false }; bank = bankSeen values x; shared = m }
 
 abbrev pub answeredWrite : Shared → Stored → Answered
-answeredWrite m x = record { reply = record { value = 0; late = x .late }; bank = x .bank; shared = m }
+answeredWrite m x = record { reply = record { value = 0; late = x .late }; bank = bankStored x; shared = m }
 
 pub answers-move : (u : Shape) (b : Bank) (m : Shared) (r : Row) (k : Step) {q : Ask} {a : Answered} → isMove k ≡ true
     → q ≡ askAt (r .local .place) (u .delta) r

@@ -8,7 +8,6 @@ ghost use Rattle.bank.specs.Registers.{bankOf};
 ghost use Rattle.model.specs.Bounds.{Sound, Room};
 ghost use Rattle.routine.specs.Rows.{rowIn, Inside, Whole};
 ghost use Rattle.engine.specs.Stepped.{Numbered, Due, sharedOf, Moved, Stepped};
-use bank::registers;
 use model::Place;
 use model::Shape;
 use routine::rows;

@@ -14,8 +14,9 @@ use Rattle.terms.specs.Limits.{unlimited}
 use Rattle.terms.specs.declared.ProcessNumber.{ProcessNumber}
 use Rattle.terms.specs.declared.SlotNumber.{SlotNumber}
 use Rattle.terms.specs.Numbers.{indexOf}
+use Rattle.registers.specs.Deadlines.{pairOf, due}
 use Rattle.bank.specs.declared.Bank.{Bank}
-use Rattle.bank.specs.Registers.{pairOf, due, lateAt, deadlineAt, afterRead, afterWrite}
+use Rattle.bank.specs.Registers.{lateAt, deadlineAt, afterRead, afterWrite}
 use Rattle.model.specs.declared.Place.{Place}
 use Rattle.model.specs.declared.Ask.{Ask}
 use Rattle.model.specs.declared.Shared.{Shared}

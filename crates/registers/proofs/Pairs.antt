@@ -6,7 +6,7 @@ use native.Mathlib.Omega.{arith}
 use Rattle.terms.specs.declared.ProcessNumber.{ProcessNumber}
 use Rattle.terms.specs.declared.SlotNumber.{SlotNumber}
 use Rattle.terms.specs.Ranges.{IsPair}
-use Rattle.bank.specs.Registers.{pairOf}
+use Rattle.registers.specs.Deadlines.{pairOf}
 
 pub pair-below : {i : ProcessNumber} {c : SlotNumber} → IsPair i c → pairOf i c < 256
 pair-below p = omega arith

@@ -1,7 +1,7 @@
--- `bank::registers::pair_of` meets its contract: the place is the definition's, and fits. Assumes nothing.
+-- `registers::pair_of` meets its contract: the place is the definition's, and fits. Assumes nothing.
 use borrow.Author.Needs.{needs}
-use Rattle.bank.proofs.registers.pair_of.Statement.{statement}
-use Rattle.bank.proofs.registers.pair_of.Tie as tie
+use Rattle.registers.proofs.pair_of.Statement.{statement}
+use Rattle.registers.proofs.pair_of.Tie as tie
 
 returns : tie.Need-returns
 returns c = search needs

@@ -1,11 +1,11 @@
-// The deadline rule, in place and without refusals: a read or a write whose numbers are known to be good. `calls` refuses the others.
+// The deadline rule of the timed registers, in place over a bank whose parts are lent: a read or a write whose numbers are known to be good.
+// The crate `bank` refuses the others.
 use terms::ProcessNumber;
 use terms::SlotNumber;
 use terms::Wait;
 ghost use mathlib.Core.Path.{_≡_};
 ghost use Rattle.terms.specs.Ranges.{IsPair, IsTick, IsWait};
-ghost use Rattle.bank.specs.Registers.{bankOf, pairOf, due};
-ghost use Rattle.bank.specs.Granted.{readGranted, writeGranted};
+ghost use Rattle.registers.specs.Deadlines.{pairOf, due, readGranted, writeGranted};
 
 // The place of a pair among the deadlines.
 fn pair_of(i: ProcessNumber, c: SlotNumber) -> usize
@@ -41,8 +41,8 @@ pub fn read_granted(
     requires { ⌜ IsPair i c ⌝ }
     requires { ⌜ IsTick t ⌝ }
     requires { ⌜ IsWait d ⌝ }
-    ensures { λ r. ⌜ record { value = r; bank = bankOf (now (values .entry)) (now (deadlines .exit)) (now (last .exit)) }
-        ≡ readGranted (bankOf (now (values .entry)) (now (deadlines .entry)) (now (last .entry))) i c t d ⌝ }
+    ensures { λ r. ⌜ record { value = r; deadlines = now (deadlines .exit); last = now (last .exit) }
+        ≡ readGranted (now (values .entry)) (now (deadlines .entry)) i c t d ⌝ }
 {
     let pair = pair_of(i, c);
     deadlines[pair] = due_at(t, d);
@@ -62,8 +62,8 @@ pub fn write_granted(
     v: u32,
 ) -> bool
     requires { ⌜ IsPair i c ⌝ }
-    ensures { λ r. ⌜ record { late = r; bank = bankOf (now (values .exit)) (now (deadlines .exit)) (now (last .exit)) }
-        ≡ writeGranted (bankOf (now (values .entry)) (now (deadlines .entry)) (now (last .entry))) i c t v ⌝ }
+    ensures { λ r. ⌜ record { late = r; values = now (values .exit); deadlines = now (deadlines .exit); last = now (last .exit) }
+        ≡ writeGranted (now (values .entry)) (now (deadlines .entry)) i c t v ⌝ }
 {
     let pair = pair_of(i, c);
     let deadline = deadlines[pair];
