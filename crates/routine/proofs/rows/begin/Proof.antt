@@ -1,3 +1,4 @@
+use Rattle.routine.proofs.RowLaws.{also, told-as}
 use borrow.Author.Needs.{needs}
 use Rattle.routine.proofs.rows.begin.Statement.{statement}
 use Rattle.routine.proofs.rows.begin.Tie as tie
@@ -65,15 +66,18 @@ owns-requires-3 c κs = search needs
 
 -- src/rows.rt:203:1
 returns : tie.Need-returns
-returns c = ?
+returns c =
+    told-as (also (also (c .before .before .before .before .to .ensures) (c .before .before .on .ensures)) (c .owns .ensures)) (λ l. rw (c .before .before .before .before .before .before .enum-told .given .1))
 
 -- src/rows.rt:203:1
 returns-2 : tie.Need-returns-2
-returns-2 c = ?
+returns-2 c =
+    told-as (also (also (c .before .before .before .before .to2 .ensures) (c .before .before .on2 .ensures)) (c .owns2 .ensures)) (λ l. rw (c .before .before .before .before .before .before .enum-told2 .given .1))
 
 -- src/rows.rt:203:1
 returns-3 : tie.Need-returns-3
-returns-3 c = ?
+returns-3 c =
+    told-as (also (also (c .before .before .before .before .to3 .ensures) (c .before .before .on3 .ensures)) (c .owns3 .ensures)) (λ l. rw (c .before .before .before .before .before .before .enum-told3 .given .1))
 
 pub begin-spec : {M : Type 1} → statement M
 begin-spec =

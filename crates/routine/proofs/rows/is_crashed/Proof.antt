@@ -1,3 +1,5 @@
+use Rattle.routine.specs.Rows.{rowIn}
+use mathlib.Core.Path.{refl}
 use borrow.Author.Needs.{needs}
 use Rattle.routine.proofs.rows.is_crashed.Statement.{statement}
 use Rattle.routine.proofs.rows.is_crashed.Tie as tie
@@ -18,7 +20,8 @@ element-copy-out-result c = search needs
 
 -- src/rows.rt:131:1
 returns : tie.Need-returns
-returns c = ?
+unfolding rowIn
+returns c = refl
 
 pub is-crashed-spec : {M : Type 1} → statement M
 is-crashed-spec = tie.close (tie.spec add-result mul-result element-copy-out-result returns)
