@@ -1,10 +1,11 @@
 use Rattle.routine.proofs.RowLaws.{changed, also, told-as}
+use mathlib.Core.Bool.{false}
+use Rattle.model.specs.Routine.{counted}
 use Rattle.routine.specs.Rows.{rowIn}
 use Rattle.model.specs.declared.Row.{Row}
 use lib.Seq.{getD-set-other}
 use lib.ListN.{getD, set}
 use denote.Ref.{now}
-use native.Mathlib.Nat.{add-zero}
 use native.Mathlib.Omega.{arith}
 use mathlib.Core.Path.{_≡_, refl}
 use Prim.Native.Nat.{ℕ, _+_, _*_}
@@ -19,6 +20,11 @@ one-move r = record { local = r .local; own = r .own; moves = r .moves + 1; late
 
 abbrev one-late : Row → Row
 one-late r = record { local = r .local; own = r .own; moves = r .moves; lates = r .lates + 1; crashed = r .crashed }
+
+no-late : (r : Row) → one-move r ≡ counted false (r .local) r
+no-late r =
+    let e : r .lates ≡ r .lates + 0 = omega arith in
+    λ i. record { local = r .local; own = r .own; moves = r .moves + 1; lates = e i; crashed = r .crashed }
 
 -- src/rows.rt:186:32
 mul-rows : tie.Need-mul-rows
@@ -115,7 +121,7 @@ returns-2 c =
     let a = c .before .before .args in
     told-as
     (changed (now (a .rows)) (a .j) 6 (getD (now (a .rows)) (a .j * 8 + 6) 0 + 1) (c .before .before .pre .0) (omega arith) one-move refl)
-    (λ l. rw (c .if1 .left, add-zero))
+    (λ l. rw (c .if1 .left) (no-late (rowIn (now (a .rows)) (a .j))))
 
 pub count-spec : {M : Type 1} → statement M
 count-spec =
