@@ -1,4 +1,4 @@
--- One step as the code takes it, a row out and back, and what that is to the run: the loop's invariant, kept by an accepted record and turned
+-- One step as the code takes it, in place, and what that is to the run: the loop's invariant, kept by an accepted record and turned
 -- into the run's answer by a refused one and at the end.
 -- Assumes nothing.
 use Prim.Native.Nat.{ℕ, _+_, _*_, _-_, _≤_, _<_}
@@ -8,6 +8,7 @@ use mathlib.Core.List.{List}
 use native.Mathlib.Omega.{arith}
 use lib.ListN.{length, drop, set, length-set, length-drop}
 use Rattle.terms.specs.Limits.{mostProcesses, mostSteps, topTick}
+use Rattle.terms.specs.declared.ProcessNumber.{ProcessNumber}
 use Rattle.terms.specs.Numbers.{indexOf}
 use Rattle.terms.specs.Overlay.{overlay}
 use Rattle.terms.proofs.RefusalLaws.{if-accepted}
@@ -18,6 +19,7 @@ use Rattle.steps.specs.declared.Step.{Step}
 use Rattle.steps.specs.declared.StepRead.{StepRead}
 use Rattle.steps.specs.Step.{stepRefusal, stepFields, stepRead}
 use Rattle.steps.proofs.StepLaws.{step-said, AcceptedStep}
+use Rattle.model.specs.declared.Place.{Place}
 use Rattle.model.specs.declared.Shape.{Shape}
 use Rattle.model.specs.declared.Row.{Row}
 use Rattle.model.specs.declared.Ask.{Ask}
@@ -32,7 +34,9 @@ use Rattle.model.specs.Report.{lines, outcomeOf, reportOf}
 use Rattle.model.proofs.RunLaws.{recordAt, judgeAt, reach-start, refused-by-bytes, refused-by-judge, accepted-by-both, reach-stays, records-end, records-past}
 use Rattle.model.proofs.Rooms.{reach-room}
 use Rattle.model.proofs.ReportLaws.{ranBy, refusedRun, ran-stopped}
-use Rattle.engine.specs.Stepped.{Due, sharedOf, stepAnswer, stepRow, ranFrom}
+use Rattle.engine.specs.Stepped.{Due, sharedOf, stepAnswer, stepRow, Stepped, Moved, ranFrom}
+use Rattle.routine.specs.Rows.{rowIn, Changed, taken}
+use Rattle.routine.proofs.RowLaws.{told-as}
 
 -- ONE STEP
 
@@ -43,12 +47,39 @@ answeredRead values m x = record { reply = record { value = x .value; late = fal
 abbrev pub answeredWrite : Shared → Stored → Answered
 answeredWrite m x = record { reply = record { value = 0; late = x .late }; bank = bankStored x; shared = m }
 
-pub answers-move : (u : Shape) (b : Bank) (m : Shared) (r : Row) (k : Step) {q : Ask} {a : Answered} → isMove k ≡ true
-    → q ≡ askAt (r .local .place) (u .delta) r
-    → a ≡ answerOf b m (k .process) (k .tick) q
-    → a ≡ stepAnswer u b m r k
-unfolding stepAnswer
-answers-move u b m r k h e f = f ∙ ap (answerOf b m (k .process) (k .tick)) (e ∙ sym (ap (λ (t : Bool). cond t (askAt (r .local .place) (u .delta) r) Ask.Nothing) h))
+-- a move at place p, from memory's answer and the row that goes on with it
+pub moves-at : (u : Shape) (i : ProcessNumber) (t j : ℕ) (old new : List ℕ) (b b′ : Bank) (m m′ : Shared) (p : Place) → rowIn old j .local .place ≡ p
+    → (a : Answered) → a ≡ answerOf b m i t (askAt p (u .delta) (rowIn old j))
+    → Changed j (taken u p (wakeAt (u .delta) t) (a .reply .value) (a .reply .late)) old new
+    → b′ ≡ a .bank → m′ ≡ a .shared
+    → Moved u (rowIn old j .local .place) i t j old new b b′ m m′
+moves-at u i t j old new b b′ m m′ p e a f g h k =
+    rw e
+    (record {
+      rows = told-as g (λ l. ap (λ (x : Answered). rowAfter u p (wakeAt (u .delta) t) (rowIn old j) (x .reply)) f);
+      bank = h ∙ ap (λ (x : Answered). x .bank) f;
+      shared = k ∙ ap (λ (x : Answered). x .shared) f;
+    })
+
+-- an accepted step is a move or a crash
+module _ (u : Shape) (k : Step) (j : ℕ) (old new : List ℕ) (b b′ : Bank) (m m′ : Shared) where
+  pub steps-by-move : isMove k ≡ true → Moved u (rowIn old j .local .place) (k .process) (k .tick) j old new b b′ m m′ → Stepped u k j old new b b′ m m′
+  unfolding stepAnswer stepRow
+  steps-by-move e x =
+      record {
+        rows = told-as (x .rows) (λ l. rw e);
+        bank = rw e (x .bank);
+        shared = rw e (x .shared);
+      }
+
+  pub steps-by-crash : isMove k ≡ false → Changed j crash old new → b′ ≡ b → m′ ≡ m → Stepped u k j old new b b′ m m′
+  unfolding stepAnswer stepRow
+  steps-by-crash e x f g =
+      record {
+        rows = told-as x (λ l. rw e);
+        bank = rw e f;
+        shared = rw e g;
+      }
 
 -- a step's row put back, with memory as it answered
 abbrev pub back : State → Step → Answered → Row → State

@@ -1,11 +1,13 @@
--- One accepted step as the code takes it: memory answers, and then the row of its process changes. What the code asks of its numbers.
+-- One accepted step as the code takes it: memory answers, and the row of its process changes. What the code asks of its numbers.
 use Prim.Native.Nat.{ℕ, _≤_}
+use mathlib.Core.Path.{_≡_}
 use mathlib.Core.Bool.{Bool, cond}
 use mathlib.Core.List.{List}
 use Rattle.terms.specs.declared.ProcessNumber.{ProcessNumber}
 use Rattle.terms.specs.Limits.{mostProcesses, topTick}
 use Rattle.bank.specs.declared.Bank.{Bank}
 use Rattle.steps.specs.declared.Step.{Step}
+use Rattle.model.specs.declared.Place.{Place}
 use Rattle.model.specs.declared.Shape.{Shape}
 use Rattle.model.specs.declared.Row.{Row}
 use Rattle.model.specs.declared.Ask.{Ask}
@@ -13,8 +15,9 @@ use Rattle.model.specs.declared.Reply.{Reply}
 use Rattle.model.specs.declared.Shared.{Shared}
 use Rattle.model.specs.Time.{wakeAt}
 use Rattle.model.specs.Routine.{askAt, rowAfter, crash}
-use Rattle.model.specs.Memory.{Answered, answerOf}
+use Rattle.model.specs.Memory.{Answered, bankAfter, sharedAfter, answerOf}
 use Rattle.model.specs.Run.{Progress, isMove, fresh, reach, records}
+use Rattle.routine.specs.Rows.{rowIn, Changed}
 use Rattle.model.specs.Report.{Ran, outcomeOf, reportOf}
 
 -- a process that there may be
@@ -38,6 +41,18 @@ stepAnswer u b m r k = answerOf b m (k .process) (k .tick) (cond (isMove k) (ask
 -- and its row afterwards
 unfoldable pub stepRow : Shape → Row → Step → Reply → Row
 stepRow u r k a = cond (isMove k) (rowAfter u (r .local .place) (wakeAt (u .delta) (k .tick)) r a) (crash r)
+
+-- a step in place: of the rows row j alone changes, by what memory answers it
+pub record Stepped (u : Shape) (k : Step) (j : ℕ) (old new : List ℕ) (b b′ : Bank) (m m′ : Shared) : Type 0 where
+  pub rows : Changed j (λ r. stepRow u r k (stepAnswer u b m r k .reply)) old new
+  pub bank : b′ ≡ stepAnswer u b m (rowIn old j) k .bank
+  pub shared : m′ ≡ stepAnswer u b m (rowIn old j) k .shared
+
+-- a move of process i at tick t, at place p
+pub record Moved (u : Shape) (p : Place) (i : ProcessNumber) (t j : ℕ) (old new : List ℕ) (b b′ : Bank) (m m′ : Shared) : Type 0 where
+  pub rows : Changed j (λ r. rowAfter u p (wakeAt (u .delta) t) r (answerOf b m i t (askAt p (u .delta) r) .reply)) old new
+  pub bank : b′ ≡ bankAfter b i t (askAt p (u .delta) (rowIn old j))
+  pub shared : m′ ≡ sharedAfter m (askAt p (u .delta) (rowIn old j))
 
 -- what the records of `rest` return and leave, from the fresh state on
 abbrev pub ranFrom : Shape → List ℕ → List ℕ → List ℕ → Ran

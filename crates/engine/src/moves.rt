@@ -44,7 +44,7 @@ fn make_move(
     requires { ⌜ Inside j ⌝ }
     requires { ⌜ Whole (now rows) ⌝ }
     requires { ⌜ Room shape (rowIn (now rows) j) ⌝ }
-    ensures { λ _. ⌜ Moved shape i tick j (now (rows .entry)) (now (rows .exit))
+    ensures { λ _. ⌜ Moved shape (rowIn (now (rows .entry)) j .local .place) i tick j (now (rows .entry)) (now (rows .exit))
         (bankOf (now (values .entry)) (now (deadlines .entry)) (now (last .entry))) (bankOf (now (values .exit)) (now (deadlines .exit)) (now (last .exit)))
         (sharedOf (now (flags .entry))) (sharedOf (now (flags .exit))) ⌝ }
 {

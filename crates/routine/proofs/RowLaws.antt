@@ -28,7 +28,7 @@ place-shown Place.Scan = refl
 place-shown Place.Decided = refl
 
 -- nine numbers make a row
-same-row : (x y : ℕ → ℕ) → ((f : ℕ) → f < 9 → x f ≡ y f) → rowWith x ≡ rowWith y
+pub same-row : (x y : ℕ → ℕ) → ((f : ℕ) → f < 9 → x f ≡ y f) → rowWith x ≡ rowWith y
 same-row x y e =
     let e0 : x 0 ≡ y 0 = e 0 (omega arith) in
     let e1 : x 1 ≡ y 1 = e 1 (omega arith) in
