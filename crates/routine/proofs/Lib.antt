@@ -1,2 +1,4 @@
 pub mod RowLaws
 pub mod RowsLaws
+pub mod SlotLaws
+pub mod TakeLaws

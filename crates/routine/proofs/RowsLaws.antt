@@ -16,7 +16,7 @@ use Rattle.model.specs.declared.Row.{Row}
 use Rattle.model.specs.Routine.{Routine, routine, begin}
 use Rattle.model.specs.Run.{blank}
 use Rattle.model.proofs.StartLaws.{Filled, filled-more}
-use Rattle.routine.specs.Rows.{Inside, Whole, rowIn, rowsFrom, rowsIn, Changed, begun}
+use Rattle.routine.specs.Rows.{Inside, Whole, position, numberAt, rowIn, rowsFrom, rowsIn, Changed, begun}
 use Rattle.routine.proofs.RowLaws.{same-row}
 
 length-rowsFrom : (n j : ℕ) (s : List ℕ) → length (rowsFrom n j s) ≡ n
@@ -58,7 +58,7 @@ all-zero (suc n) (suc i) = all-zero n i
 
 zeros-are-blank : (j : ℕ) → rowIn (replicate 288 0) j ≡ blank
 unfolding rowIn
-zeros-are-blank j = same-row _ (λ f. 0) (λ f h. all-zero 288 _)
+zeros-are-blank j = same-row (numberAt (replicate 288 0) j) (λ f. 0) (λ f h. all-zero 288 (position j f))
 
 -- no process has begun
 pub begins-none : (u : Shape) (xs : List ℕ) → Filled u xs 0 (rowsIn (replicate 288 0))
@@ -71,7 +71,7 @@ begins-none u xs =
   where
     beyond : (i : ℕ) (b : Bool) → ltb i mostProcesses ≡ b → getD (rowsIn (replicate 288 0)) i blank ≡ blank
     beyond i true e = row-at _ i (ltb-true i mostProcesses e) ∙ zeros-are-blank i
-    beyond i false e = List·getD-eq-default _ i blank (rw (thirty-two (replicate 288 0)) (ltb-false i mostProcesses e))
+    beyond i false e = List·getD-eq-default (rowsIn (replicate 288 0)) blank {n = i} (rw (thirty-two (replicate 288 0)) (ltb-false i mostProcesses e))
 
 -- a process begins as nobody does, but for place, slot and value
 begins-from-blank : (κ : Routine) (j x : ℕ) → begun (begin κ j x) blank ≡ begin κ j x

@@ -1,101 +1,44 @@
+-- `routine::takes::check` meets its contract.
+-- Assumes nothing.
+use Rattle.routine.proofs.RowLaws.{also, told-as}
+use borrow.Author.Tests.{eq-eqb, ne-eqb}
+use mathlib.Core.Path.{ap, _∙_, sym}
+use Rattle.model.specs.Routine.{slots}
+use Rattle.model.specs.declared.Row.{Row}
 use borrow.Author.Needs.{needs}
 use Rattle.routine.proofs.takes.check.Statement.{statement}
 use Rattle.routine.proofs.takes.check.Tie as tie
-use Rattle.routine.proofs.takes.check.Reads as reads
-use Rattle.routine.proofs.takes.check.Lts as lts
-use Rattle.routine.proofs.rows.count.Reads as count-reads
-use Rattle.routine.proofs.rows.decides.Reads as decides-reads
-use Rattle.routine.proofs.rows.on.Reads as on-reads
-use Rattle.routine.proofs.rows.own.Reads as own-reads
-use Rattle.routine.proofs.rows.to.Reads as to-reads
-use Rattle.routine.proofs.takes.lost.Reads as lost-reads
 
--- src/takes.rt:167:5
-count-requires : tie.Need-count-requires
-count-requires c κs = search needs
-
--- src/takes.rt:171:34
-enum-told : tie.Need-enum-told
-enum-told c = search needs
-
--- src/takes.rt:171:21
-own-requires : tie.Need-own-requires
-own-requires c κs = search needs
-
--- src/takes.rt:172:17
-to-requires : tie.Need-to-requires
-to-requires c κs = search needs
-
--- src/takes.rt:173:17
 returns : tie.Need-returns
-returns c = ?
+returns c w = told-as (also (c .before .before .before .before .before .before .before .count .ensures) (c .to .ensures)) (λ l. rw (c .before .before .before .before .before .enum-told .given .1, eq-eqb _ _ (c .before .before .if1 .taken ∙ c .before .before .before .own .ensures ∙ ap (λ (r : Row). r .own) (c .before .before .before .before .before .before .before .count .ensures .row l))))
 
--- src/takes.rt:175:17
-lost-requires : tie.Need-lost-requires
-lost-requires c κs = search needs
-
--- src/takes.rt:176:13
-to-requires-2 : tie.Need-to-requires-2
-to-requires-2 c κs = search needs
-
--- src/takes.rt:177:13
-on-requires : tie.Need-on-requires
-on-requires c κs = search needs
-
--- src/takes.rt:180:22
-enum-told-2 : tie.Need-enum-told-2
-enum-told-2 c = search needs
-
--- src/takes.rt:180:13
-to-requires-3 : tie.Need-to-requires-3
-to-requires-3 c κs = search needs
-
--- src/takes.rt:181:13
-decides-requires : tie.Need-decides-requires
-decides-requires c κs = search needs
-
--- src/takes.rt:184:22
-enum-told-3 : tie.Need-enum-told-3
-enum-told-3 c = search needs
-
--- src/takes.rt:184:13
-to-requires-4 : tie.Need-to-requires-4
-to-requires-4 c κs = search needs
-
--- src/takes.rt:185:13
-decides-requires-2 : tie.Need-decides-requires-2
-decides-requires-2 c κs = search needs
-
--- src/takes.rt:162:1
 returns-2 : tie.Need-returns-2
-returns-2 c = ?
+returns-2 c w = told-as (also (also (c .before .before .before .before .before .before .before .before .before .before .before .count .ensures) (c .before .before .to2 .ensures)) (c .on .ensures)) (λ l. rw (c .before .before .before .before .lost .ensures ∙ ap (λ (r : Row). slots (c .before .before .before .before .before .before .before .before .before .before .before .before .before .args .shape) (r .local) .lost) (c .before .before .before .before .before .before .before .before .before .before .before .count .ensures .row l), c .before .before .before .before .before .before .before .before .before .enum-told .given .1, ne-eqb _ _ (λ e. c .before .before .before .before .before .before .if1 .left (e ∙ sym (c .before .before .before .before .before .before .before .own .ensures ∙ ap (λ (r : Row). r .own) (c .before .before .before .before .before .before .before .before .before .before .before .count .ensures .row l))))))
 
--- src/takes.rt:162:1
 returns-3 : tie.Need-returns-3
-returns-3 c = ?
+returns-3 c w = told-as (also (also (c .before .before .before .before .before .before .count .ensures) (c .before .before .to3 .ensures)) (c .decides .ensures)) (λ l. rw (c .before .before .before .before .enum-told2 .given .1))
 
--- src/takes.rt:162:1
 returns-4 : tie.Need-returns-4
-returns-4 c = ?
+returns-4 c w = told-as (also (also (c .before .before .before .before .before .before .count .ensures) (c .before .before .to4 .ensures)) (c .decides2 .ensures)) (λ l. rw (c .before .before .before .before .enum-told3 .given .1))
 
 pub check-spec : {M : Type 1} → statement M
 check-spec =
     tie.close
     (tie.spec
-    count-requires
-    enum-told
-    own-requires
-    to-requires
+    (λ c κs. search needs)
+    (λ c. search needs)
+    (λ c κs. search needs)
+    (λ c κs. search needs)
     returns
-    lost-requires
-    to-requires-2
-    on-requires
-    enum-told-2
-    to-requires-3
-    decides-requires
-    enum-told-3
-    to-requires-4
-    decides-requires-2
+    (λ c κs. search needs)
+    (λ c κs. search needs)
+    (λ c κs. search needs)
+    (λ c. search needs)
+    (λ c κs. search needs)
+    (λ c κs. search needs)
+    (λ c. search needs)
+    (λ c κs. search needs)
+    (λ c κs. search needs)
     returns-2
     returns-3
     returns-4)

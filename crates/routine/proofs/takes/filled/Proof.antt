@@ -1,33 +1,34 @@
+-- `routine::takes::filled` meets its contract.
+-- Assumes nothing.
+use Rattle.routine.proofs.SlotLaws.{slots-filled}
+use mathlib.Core.Path.{sym, ap, _∙_}
+use Rattle.terms.specs.declared.SlotNumber.{SlotNumber}
+use native.Mathlib.Omega.{arith}
+use Prim.Native.Nat.{ℕ, _+_, _%_}
+use native.Mathlib.Nat.{mod-eq-of-lt, mod-self}
 use borrow.Author.Needs.{needs}
 use Rattle.routine.proofs.takes.filled.Statement.{statement}
 use Rattle.routine.proofs.takes.filled.Tie as tie
-use Rattle.routine.proofs.takes.filled.Reads as reads
-use Rattle.routine.proofs.takes.filled.Lts as lts
-use Rattle.routine.proofs.rows.slot.Reads as slot-reads
 
--- src/takes.rt:32:9
-slot-requires : tie.Need-slot-requires
-slot-requires c κs = search needs
-
--- src/takes.rt:33:16
 add-next : tie.Need-add-next
-add-next c = ?
+add-next c = omega (arith, ap (λ (s : SlotNumber). s .0) (c .before .slot .ensures), c .before .before .pre .1 .1)
 
--- src/takes.rt:35:9
 returns : tie.Need-returns
-returns c = ?
+returns c = let u = c .before .before .before .before .args .shape in sym (slots-filled u _ ∙ ap (λ (n : ℕ). n % u .size) (sym (ap (λ (s : SlotNumber). s .0 + 1) (c .before .before .before .slot .ensures))) ∙ mod-eq-of-lt (c .if1 .taken))
 
--- src/takes.rt:38:9
 returns-2 : tie.Need-returns-2
-returns-2 c = ?
+returns-2 c = let u = c .before .before .before .before .before .before .args .shape in sym (slots-filled u _ ∙ ap (λ (n : ℕ). n % u .size) (sym (ap (λ (s : SlotNumber). s .0 + 1) (c .before .before .before .before .before .slot .ensures)) ∙ c .if2 .taken) ∙ mod-self (u .size))
 
--- src/takes.rt:40:5
-rem-result : tie.Need-rem-result
-rem-result c = search needs
-
--- src/takes.rt:26:1
 returns-3 : tie.Need-returns-3
-returns-3 c = ?
+returns-3 c = let u = c .before .before .before .before .before .before .before .args .shape in ap (λ (n : ℕ). n % u .size) (ap (λ (s : SlotNumber). s .0 + 1) (c .before .before .before .before .before .before .slot .ensures)) ∙ sym (slots-filled u _)
 
 pub filled-spec : {M : Type 1} → statement M
-filled-spec = tie.close (tie.spec slot-requires add-next returns returns-2 rem-result returns-3)
+filled-spec =
+    tie.close
+    (tie.spec
+    (λ c κs. search needs)
+    add-next
+    returns
+    returns-2
+    (λ c. search needs)
+    returns-3)

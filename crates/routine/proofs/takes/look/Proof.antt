@@ -1,85 +1,47 @@
+-- `routine::takes::look` meets its contract.
+-- Assumes nothing.
+use Rattle.routine.proofs.RowLaws.{also, told-as}
+use Rattle.routine.proofs.TakeLaws.{looked}
+use borrow.Author.Tests.{ne-eqb}
+use mathlib.Core.Path.{ap, _∙_, sym, subst}
+use Rattle.model.specs.Routine.{slots}
+use Rattle.model.specs.declared.Row.{Row}
+use Prim.Native.Nat.{_<_}
+use Rattle.terms.specs.Limits.{mostSlots}
 use borrow.Author.Needs.{needs}
 use Rattle.routine.proofs.takes.look.Statement.{statement}
 use Rattle.routine.proofs.takes.look.Tie as tie
-use Rattle.routine.proofs.takes.look.Reads as reads
-use Rattle.routine.proofs.takes.look.Lts as lts
-use Rattle.routine.proofs.rows.count.Reads as count-reads
-use Rattle.routine.proofs.rows.on.Reads as on-reads
-use Rattle.routine.proofs.rows.to.Reads as to-reads
-use Rattle.routine.proofs.takes.filled.Reads as filled-reads
-use Rattle.routine.proofs.takes.scan_from.Reads as scan-from-reads
 
--- src/takes.rt:102:5
-count-requires : tie.Need-count-requires
-count-requires c κs = search needs
-
--- src/takes.rt:104:9
-to-requires : tie.Need-to-requires
-to-requires c κs = search needs
-
--- src/takes.rt:105:9
 returns : tie.Need-returns
-returns c = ?
+returns c w = told-as (also (c .before .before .before .count .ensures) (c .to .ensures)) (λ l. looked (c .before .before .before .before .before .args .shape) w _ (c .before .before .before .before .before .args .v) (c .before .before .if1 .taken))
 
--- src/takes.rt:110:38
-enum-told : tie.Need-enum-told
-enum-told c = search needs
-
--- src/takes.rt:110:17
 filled-requires : tie.Need-filled-requires
-filled-requires c κs = ?
+filled-requires c κs = let p = c .before .before .before .before .before .before .pre in (p .0, (p .1 .1 .0, subst (λ (r : Row). r .local .slot .0 < mostSlots) (sym (c .before .before .before .before .count .ensures .row (p .1 .0))) (p .1 .1 .1 .slot)))
 
--- src/takes.rt:111:13
-to-requires-2 : tie.Need-to-requires-2
-to-requires-2 c κs = search needs
-
--- src/takes.rt:112:13
-on-requires : tie.Need-on-requires
-on-requires c κs = search needs
-
--- src/takes.rt:115:22
-enum-told-2 : tie.Need-enum-told-2
-enum-told-2 c = search needs
-
--- src/takes.rt:115:13
-to-requires-3 : tie.Need-to-requires-3
-to-requires-3 c κs = search needs
-
--- src/takes.rt:118:41
-enum-told-3 : tie.Need-enum-told-3
-enum-told-3 c = search needs
-
--- src/takes.rt:118:13
-scan-from-requires : tie.Need-scan-from-requires
-scan-from-requires c κs = search needs
-
--- src/takes.rt:95:1
 returns-2 : tie.Need-returns-2
-returns-2 c = ?
+returns-2 c w = told-as (also (also (c .before .before .before .before .before .before .before .before .before .count .ensures) (c .before .before .to2 .ensures)) (c .on .ensures)) (λ l. rw (c .before .before .before .before .filled .ensures ∙ ap (λ (r : Row). slots (c .before .before .before .before .before .before .before .before .before .before .before .args .shape) (r .local) .filled) (c .before .before .before .before .before .before .before .before .before .count .ensures .row l), c .before .before .before .before .before .before .enum-told .given .1, ne-eqb _ _ (c .before .before .before .before .before .before .before .before .if1 .left)))
 
--- src/takes.rt:95:1
 returns-3 : tie.Need-returns-3
-returns-3 c = ?
+returns-3 c w = told-as (also (c .before .before .before .before .before .count .ensures) (c .to3 .ensures)) (λ l. rw (c .before .before .enum-told2 .given .1, ne-eqb _ _ (c .before .before .before .before .if1 .left)))
 
--- src/takes.rt:95:1
 returns-4 : tie.Need-returns-4
-returns-4 c = ?
+returns-4 c w = told-as (also (c .before .before .before .before .before .count .ensures) (c .scan-from .ensures)) (λ l. rw (c .before .before .enum-told3 .given .1, ne-eqb _ _ (c .before .before .before .before .if1 .left)))
 
 pub look-spec : {M : Type 1} → statement M
 look-spec =
     tie.close
     (tie.spec
-    count-requires
-    to-requires
+    (λ c κs. search needs)
+    (λ c κs. search needs)
     returns
-    enum-told
+    (λ c. search needs)
     filled-requires
-    to-requires-2
-    on-requires
-    enum-told-2
-    to-requires-3
-    enum-told-3
-    scan-from-requires
+    (λ c κs. search needs)
+    (λ c κs. search needs)
+    (λ c. search needs)
+    (λ c κs. search needs)
+    (λ c. search needs)
+    (λ c κs. search needs)
     returns-2
     returns-3
     returns-4)

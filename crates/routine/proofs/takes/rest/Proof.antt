@@ -1,62 +1,33 @@
+-- `routine::takes::rest` meets its contract.
+-- Assumes nothing.
+use Rattle.routine.proofs.RowLaws.{also, told-as}
+use mathlib.Core.Path.{ap, _∙_}
+use Rattle.model.specs.Routine.{slots}
+use Rattle.model.specs.declared.Row.{Row}
 use borrow.Author.Needs.{needs}
 use Rattle.routine.proofs.takes.rest.Statement.{statement}
 use Rattle.routine.proofs.takes.rest.Tie as tie
-use Rattle.routine.proofs.takes.rest.Reads as reads
-use Rattle.routine.proofs.takes.rest.Lts as lts
-use Rattle.routine.proofs.rows.count.Reads as count-reads
-use Rattle.routine.proofs.rows.on.Reads as on-reads
-use Rattle.routine.proofs.rows.to.Reads as to-reads
-use Rattle.routine.proofs.takes.leave.Reads as leave-reads
 
--- src/takes.rt:81:5
-count-requires : tie.Need-count-requires
-count-requires c κs = search needs
-
--- src/takes.rt:85:37
-enum-told : tie.Need-enum-told
-enum-told c = search needs
-
--- src/takes.rt:85:17
-leave-requires : tie.Need-leave-requires
-leave-requires c κs = search needs
-
--- src/takes.rt:86:13
-to-requires : tie.Need-to-requires
-to-requires c κs = search needs
-
--- src/takes.rt:87:13
-on-requires : tie.Need-on-requires
-on-requires c κs = search needs
-
-enum-told-2 : tie.Need-enum-told-2
-enum-told-2 c = search needs
-
-enum-told-3 : tie.Need-enum-told-3
-enum-told-3 c = search needs
-
--- src/takes.rt:76:1
 returns : tie.Need-returns
-returns c = ?
+returns c w = told-as (also (also (c .before .before .before .before .before .before .before .before .count .ensures) (c .before .before .to .ensures)) (c .on .ensures)) (λ l. rw (c .before .before .before .before .leave .ensures ∙ ap (λ (r : Row). slots (c .before .before .before .before .before .before .before .before .before .before .args .shape) (r .local) .leave) (c .before .before .before .before .before .before .before .before .count .ensures .row l), c .before .before .before .before .before .before .enum-told .given .1))
 
--- src/takes.rt:76:1
 returns-2 : tie.Need-returns-2
-returns-2 c = ?
+returns-2 c w = told-as (c .before .before .count .ensures) (λ l. rw (c .enum-told2 .given .1))
 
--- src/takes.rt:76:1
 returns-3 : tie.Need-returns-3
-returns-3 c = ?
+returns-3 c w = told-as (c .before .before .count .ensures) (λ l. rw (c .enum-told3 .given .1))
 
 pub rest-spec : {M : Type 1} → statement M
 rest-spec =
     tie.close
     (tie.spec
-    count-requires
-    enum-told
-    leave-requires
-    to-requires
-    on-requires
-    enum-told-2
-    enum-told-3
+    (λ c κs. search needs)
+    (λ c. search needs)
+    (λ c κs. search needs)
+    (λ c κs. search needs)
+    (λ c κs. search needs)
+    (λ c. search needs)
+    (λ c. search needs)
     returns
     returns-2
     returns-3)

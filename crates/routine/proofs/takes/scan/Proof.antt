@@ -1,72 +1,45 @@
+-- `routine::takes::scan` meets its contract.
+-- Assumes nothing.
+use Rattle.routine.proofs.RowLaws.{also, told-as}
+use borrow.Author.Tests.{eq-eqb, ne-eqb}
+use mathlib.Core.Path.{ap, _∙_}
+use native.Mathlib.Omega.{arith}
+use Rattle.model.specs.declared.Row.{Row}
 use borrow.Author.Needs.{needs}
 use Rattle.routine.proofs.takes.scan.Statement.{statement}
 use Rattle.routine.proofs.takes.scan.Tie as tie
-use Rattle.routine.proofs.takes.scan.Reads as reads
-use Rattle.routine.proofs.takes.scan.Lts as lts
-use Rattle.routine.proofs.rows.count.Reads as count-reads
-use Rattle.routine.proofs.rows.scan.Reads as scan-reads
-use Rattle.routine.proofs.rows.to.Reads as to-reads
-use Rattle.routine.proofs.takes.scan_from.Reads as scan-from-reads
 
--- src/takes.rt:230:5
-count-requires : tie.Need-count-requires
-count-requires c κs = search needs
-
-enum-told : tie.Need-enum-told
-enum-told c = search needs
-
-enum-told-2 : tie.Need-enum-told-2
-enum-told-2 c = search needs
-
--- src/takes.rt:236:16
-enum-told-3 : tie.Need-enum-told-3
-enum-told-3 c = search needs
-
--- src/takes.rt:237:28
-scan-requires : tie.Need-scan-requires
-scan-requires c κs = search needs
-
--- src/takes.rt:237:28
 add-next : tie.Need-add-next
-add-next c = ?
+add-next c = let p = c .before .before .before .before .before .before .before .pre in omega (arith, c .scan .ensures ∙ ap (λ (r : Row). r .local .scan) (c .before .before .before .before .before .count .ensures .row (p .1 .0)), p .1 .1 .scan)
 
--- src/takes.rt:238:17
 scan-from-requires : tie.Need-scan-from-requires
-scan-from-requires c κs = ?
+scan-from-requires c κs = let p = c .before .before .before .before .before .before .before .before .pre in (p .0, omega (arith, c .before .scan .ensures ∙ ap (λ (r : Row). r .local .scan) (c .before .before .before .before .before .before .count .ensures .row (p .1 .0)), p .1 .1 .scan))
 
--- src/takes.rt:239:17
 returns : tie.Need-returns
-returns c = ?
+returns c w = told-as (also (c .before .before .before .before .before .before .before .count .ensures) (c .scan-from .ensures)) (λ l. rw (c .before .before .scan .ensures ∙ ap (λ (r : Row). r .local .scan) (c .before .before .before .before .before .before .before .count .ensures .row l), c .before .before .before .before .before .enum-told3 .given .1, eq-eqb _ _ (c .before .before .before .before .if1 .taken)))
 
--- src/takes.rt:241:13
-to-requires : tie.Need-to-requires
-to-requires c κs = search needs
-
--- src/takes.rt:224:1
 returns-2 : tie.Need-returns-2
-returns-2 c = ?
+returns-2 c w = told-as (c .before .before .count .ensures) (λ l. rw (c .enum-told .given .1))
 
--- src/takes.rt:224:1
 returns-3 : tie.Need-returns-3
-returns-3 c = ?
+returns-3 c w = told-as (c .before .before .count .ensures) (λ l. rw (c .enum-told2 .given .1))
 
--- src/takes.rt:224:1
 returns-4 : tie.Need-returns-4
-returns-4 c = ?
+returns-4 c w = told-as (also (c .before .before .before .before .before .count .ensures) (c .to .ensures)) (λ l. rw (c .before .before .before .enum-told3 .given .1, ne-eqb _ _ (c .before .before .if1 .left)))
 
 pub scan-spec : {M : Type 1} → statement M
 scan-spec =
     tie.close
     (tie.spec
-    count-requires
-    enum-told
-    enum-told-2
-    enum-told-3
-    scan-requires
+    (λ c κs. search needs)
+    (λ c. search needs)
+    (λ c. search needs)
+    (λ c. search needs)
+    (λ c κs. search needs)
     add-next
     scan-from-requires
     returns
-    to-requires
+    (λ c κs. search needs)
     returns-2
     returns-3
     returns-4)

@@ -1,36 +1,25 @@
+-- `routine::takes::scan_from` meets its contract.
+-- Assumes nothing.
+use Rattle.routine.proofs.RowLaws.{told-as}
+use borrow.Author.Tests.{eq-eqb, ne-eqb}
+use mathlib.Core.Path.{sym, _∙_}
 use borrow.Author.Needs.{needs}
 use Rattle.routine.proofs.takes.scan_from.Statement.{statement}
 use Rattle.routine.proofs.takes.scan_from.Tie as tie
-use Rattle.routine.proofs.takes.scan_from.Reads as reads
-use Rattle.routine.proofs.takes.scan_from.Lts as lts
-use Rattle.routine.proofs.rows.own.Reads as own-reads
-use Rattle.routine.proofs.takes.scan_at.Reads as scan-at-reads
 
--- src/takes.rt:69:13
-own-requires : tie.Need-own-requires
-own-requires c κs = search needs
-
--- src/takes.rt:70:23
-add-scan-at : tie.Need-add-scan-at
-add-scan-at c = search needs
-
--- src/takes.rt:70:9
-scan-at-requires : tie.Need-scan-at-requires
-scan-at-requires c κs = search needs
-
--- src/takes.rt:71:9
 returns : tie.Need-returns
-returns c = ?
+returns c = told-as (c .scan-at .ensures) (λ l. rw (eq-eqb _ _ (c .before .before .if1 .taken ∙ c .before .before .before .own .ensures)))
 
--- src/takes.rt:73:5
-scan-at-requires-2 : tie.Need-scan-at-requires-2
-scan-at-requires-2 c κs = search needs
-
--- src/takes.rt:64:1
 returns-2 : tie.Need-returns-2
-returns-2 c = ?
+returns-2 c = told-as (c .scan-at2 .ensures) (λ l. rw (ne-eqb _ _ (λ e. c .before .before .if1 .left (e ∙ sym (c .before .before .before .own .ensures)))))
 
 pub scan-from-spec : {M : Type 1} → statement M
 scan-from-spec =
     tie.close
-    (tie.spec own-requires add-scan-at scan-at-requires returns scan-at-requires-2 returns-2)
+    (tie.spec
+    (λ c κs. search needs)
+    (λ c. search needs)
+    (λ c κs. search needs)
+    returns
+    (λ c κs. search needs)
+    returns-2)
