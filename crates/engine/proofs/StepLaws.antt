@@ -35,8 +35,9 @@ use Rattle.model.proofs.RunLaws.{recordAt, judgeAt, reach-start, refused-by-byt
 use Rattle.model.proofs.Rooms.{reach-room}
 use Rattle.model.proofs.ReportLaws.{ranBy, refusedRun, ran-stopped}
 use Rattle.engine.specs.Stepped.{Due, sharedOf, stepAnswer, stepRow, Stepped, Moved, ranFrom}
-use Rattle.routine.specs.Rows.{rowIn, Changed, taken}
+use Rattle.routine.specs.Rows.{Inside, Whole, rowIn, rowsIn, Changed, taken}
 use Rattle.routine.proofs.RowLaws.{told-as}
+use Rattle.routine.proofs.RowsLaws.{row-at, changed-rows}
 
 -- ONE STEP
 
@@ -189,6 +190,53 @@ module _ (u : Shape) (xs rest : List ℕ) (s : State) (at k : ℕ) (g : Going u 
               accepted-by-both u (fresh u xs) rest k (g .so-far) accepted (sym judged ∙ sym e ∙ z)
               ∙ ap going (sym (stepped-after u s (read .step) p q ∙ ap (after u s) fields));
         }
+
+-- IN PLACE
+
+-- the same of rows that stand in place as the numbers `old`
+module _ (u : Shape) (xs rest old values deadlines : List ℕ) (touched : ℕ) (flags : List Bool) (last at k : ℕ)
+    (g : Going u (fresh u xs) rest (stateOf (rowsIn old) values deadlines touched flags last) at k) (left : at < length rest) (read : StepRead)
+    (reads : read ≡ stepRead (u .count) (drop at rest)) (accepted : read .refusal ≡ 0) (few : u .count ≤ mostProcesses) where
+  abbrev s : State
+  s = stateOf (rowsIn old) values deadlines touched flags last
+
+  pub inside : Inside (indexOf (read .step .process))
+  inside = omega (arith, among u xs rest s at k g left read reads accepted)
+
+  row-is : rowOf s (read .step .process) ≡ rowIn old (indexOf (read .step .process))
+  row-is = row-at old (indexOf (read .step .process)) inside
+
+  pub roomy-in-place : Sound u → Starts u xs → length rest ≤ 8 * mostSteps → Room u (rowIn old (indexOf (read .step .process)))
+  roomy-in-place so st short = subst (Room u) row-is (roomy u xs rest s at k g left read reads accepted so st short)
+
+  pub unfit-in-place : (y : ℕ) → y ≡ judge (rowIn old (indexOf (read .step .process))) last (read .step) → (y ≡ 0 → ⊥) → (before : List ℕ)
+      → refusedRun y (k + 1) before ≡ ranFrom u xs rest before
+  unfit-in-place y e = unfit u xs rest s at k g left read reads accepted y (e ∙ ap (λ (r : Row). judge r last (read .step)) (sym row-is))
+
+  pub lands-in-place : {y : ℕ} → y ≡ judge (rowIn old (indexOf (read .step .process))) last (read .step) → y ≡ 0 → Whole old
+      → {new values′ deadlines′ : List ℕ} {touched′ : ℕ} {flags′ : List Bool}
+      → Stepped u (read .step) (indexOf (read .step .process)) old new (bankOf values deadlines touched) (bankOf values′ deadlines′ touched′) (sharedOf flags) (sharedOf flags′)
+      → Going u (fresh u xs) rest (stateOf (rowsIn new) values′ deadlines′ touched′ flags′ (read .step .tick)) (at + 8) (k + 1)
+  lands-in-place e z whole {new} {values′} {deadlines′} {touched′} {flags′} x =
+      subst (λ (t : State). Going u (fresh u xs) rest t (at + 8) (k + 1)) same
+      (lands u xs rest s at k g left read reads accepted (e ∙ ap (λ (r : Row). judge r last (read .step)) (sym row-is)) z refl refl)
+    where
+      a : Row → Answered
+      a r = stepAnswer u (bankOf values deadlines touched) (sharedOf flags) r (read .step)
+
+      after-row : Row → Row
+      after-row r = stepRow u r (read .step) (a r .reply)
+
+      same : back s (read .step) (a (rowOf s (read .step .process))) (after-row (rowOf s (read .step .process)))
+          ≡ stateOf (rowsIn new) values′ deadlines′ touched′ flags′ (read .step .tick)
+      same =
+          ap (λ (r : Row). back s (read .step) (a r) (after-row r)) row-is
+          ∙ (λ t. record {
+              rows = sym (changed-rows inside whole (x .rows)) t;
+              bank = sym (x .bank) t;
+              shared = sym (x .shared) t;
+              last = read .step .tick;
+            })
 
 -- at the end of the bytes, with the lines written
 pub ends : (u : Shape) (xs rest : List ℕ) (s : State) (at k : ℕ) → Going u (fresh u xs) rest s at k → length rest ≤ at → (old now : List ℕ)

@@ -16,7 +16,7 @@ use Rattle.model.specs.Bounds.{Room}
 use Rattle.model.specs.Routine.{routineOf}
 use Rattle.model.specs.Run.{rowOf, fresh}
 use Rattle.model.specs.Report.{lines}
-use Rattle.model.proofs.StartLaws.{Filled, filled-none, filled-in-place, filled-done}
+use Rattle.model.proofs.StartLaws.{Filled, filled-none, filled-done}
 use Rattle.model.proofs.ReportLaws.{lines-more}
 use Rattle.engine.specs.Stepped.{Due}
 use Rattle.engine.proofs.StepLaws.{stateOf, Going, begins, begun, unread, whole, due, roomy, unfit, lands, ends}
@@ -84,7 +84,7 @@ loop-again c =
     let l = c .before .before .before .before .before in
     let s = l .before .before .before .before .before in
     let t = c .before .before .before .before .loop-test .taken in
-    (omega (arith, t), filled-in-place (s .args .shape) (s .args .t2) (l .loop .made) (l .loop .rows) (l .loop .inv .1) (omega (arith, t, s .pre .0 .few)) t (c .before .before .before .begin .ensures))
+    (omega (arith, t) (s .args .shape) (s .args .t2) (l .loop .made) (l .loop .rows) (l .loop .inv .1) (omega (arith, t, s .pre .0 .few)) t (c .before .before .before .begin .ensures))
 
 loop2-holds : tie.Need-loop2-holds Inv-loop μ-loop Inv-loop2 μ-loop2 Inv-loop3 μ-loop3
 loop2-holds c = begins _ _ _ (c .before .loop .inv .1 .long)
