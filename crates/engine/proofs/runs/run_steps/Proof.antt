@@ -1,14 +1,13 @@
 -- `engine::runs::run_steps` meets its contract. The first loop begins the rows, the second goes as the fold over the records
 -- does, the third writes the lines of the first j rows.
 -- Assumes nothing.
-use Prim.Native.Nat.{ℕ, _≤_, _<_, _+_, _-_}
+use Prim.Native.Nat.{ℕ, _≤_, _+_, _-_}
 use mathlib.Core.Path.{_≡_, refl, sym, ap, _∙_}
 use mathlib.Core.Bool.{false}
 use native.Mathlib.Omega.{arith}
 use borrow.Author.Needs.{needs}
 use denote.Ref.{now}
 use lib.ListN.{length, drop, replicate, length-replicate}
-use Rattle.terms.specs.Limits.{mostProcesses}
 use Rattle.terms.specs.Numbers.{indexOf}
 use Rattle.terms.specs.Overlay.{overlay}
 use Rattle.terms.proofs.Parts.{part-to-end}
@@ -85,23 +84,11 @@ room c =
     let pre = m .before .before .before .before .before .before .before .before .before .pre in
     roomy-in-place _ _ _ _ _ _ _ _ _ _ _ (here (m .before .before .before)) (m .before .before .loop2-test .taken) (m .read-step-of .result) (found m) (c .if1 .left) (pre .0 .few) (pre .0) (pre .1 .0) (pre .1 .1 .0)
 
-cast-n : tie.Need-cast-n Inv-loop μ-loop Inv-loop2 μ-loop2 Inv-loop3 μ-loop3
-cast-n c = search needs
-
 loop-holds : tie.Need-loop-holds Inv-loop μ-loop Inv-loop2 μ-loop2 Inv-loop3 μ-loop3
 loop-holds c = let a = c .before .before .before .args in (search needs, length-replicate {A = ℕ} 288 0, begins-none (a .shape) (a .t2))
 
-array-read-begin : tie.Need-array-read-begin Inv-loop μ-loop Inv-loop2 μ-loop2 Inv-loop3 μ-loop3
-array-read-begin c = search needs
-
 begin-requires : tie.Need-begin-requires Inv-loop μ-loop Inv-loop2 μ-loop2 Inv-loop3 μ-loop3
 begin-requires c κs = omega (arith, c .before .loop-test .taken, c .before .before .before .before .before .before .pre .0 .few)
-
-add-made : tie.Need-add-made Inv-loop μ-loop Inv-loop2 μ-loop2 Inv-loop3 μ-loop3
-add-made c = search needs
-
-loop-less : tie.Need-loop-less Inv-loop μ-loop Inv-loop2 μ-loop2 Inv-loop3 μ-loop3
-loop-less c = search needs
 
 loop-again : tie.Need-loop-again Inv-loop μ-loop Inv-loop2 μ-loop2 Inv-loop3 μ-loop3
 loop-again c =
@@ -114,18 +101,6 @@ loop-again c =
 loop2-holds : tie.Need-loop2-holds Inv-loop μ-loop Inv-loop2 μ-loop2 Inv-loop3 μ-loop3
 loop2-holds c = (c .before .loop .inv .1, begins _ _ _ (thirty-two (c .before .loop .rows)))
 
-sub-read-step-of : tie.Need-sub-read-step-of Inv-loop μ-loop Inv-loop2 μ-loop2 Inv-loop3 μ-loop3
-sub-read-step-of c = search needs
-
-part-read-step-of-start : tie.Need-part-read-step-of-start Inv-loop μ-loop Inv-loop2 μ-loop2 Inv-loop3 μ-loop3
-part-read-step-of-start c = search needs
-
-part-read-step-of-end : tie.Need-part-read-step-of-end Inv-loop μ-loop Inv-loop2 μ-loop2 Inv-loop3 μ-loop3
-part-read-step-of-end c = search needs
-
-read-step-of-requires : tie.Need-read-step-of-requires Inv-loop μ-loop Inv-loop2 μ-loop2 Inv-loop3 μ-loop3
-read-step-of-requires c κs = search needs
-
 add-k : tie.Need-add-k Inv-loop μ-loop Inv-loop2 μ-loop2 Inv-loop3 μ-loop3
 add-k c = omega (arith, c .before .before .before .loop2 .inv .1 .here, c .before .before .before .before .before .before .before .before .before .pre .1 .1 .0)
 
@@ -136,9 +111,6 @@ returns c =
 
 sub-j : tie.Need-sub-j Inv-loop μ-loop Inv-loop2 μ-loop2 Inv-loop3 μ-loop3
 sub-j c = omega (arith, fit (c .before .before))
-
-cast-j : tie.Need-cast-j Inv-loop μ-loop Inv-loop2 μ-loop2 Inv-loop3 μ-loop3
-cast-j c = search needs
 
 judge-requires : tie.Need-judge-requires Inv-loop μ-loop Inv-loop2 μ-loop2 Inv-loop3 μ-loop3
 judge-requires c κs = among (c .before .before .before)
@@ -173,17 +145,8 @@ loop3-holds : tie.Need-loop3-holds Inv-loop μ-loop Inv-loop2 μ-loop2 Inv-loop3
 unfolding lines
 loop3-holds c = (search needs, refl, refl)
 
-mul-write-line : tie.Need-mul-write-line Inv-loop μ-loop Inv-loop2 μ-loop2 Inv-loop3 μ-loop3
-mul-write-line c = search needs
-
 write-line-requires : tie.Need-write-line-requires Inv-loop μ-loop Inv-loop2 μ-loop2 Inv-loop3 μ-loop3
 write-line-requires c κs = (omega (arith, c .before .before .loop3-test .taken, c .before .before .before .before .before .before .before .before .before .before .before .pre .0 .few), omega (arith, c .before .before .loop3-test .taken, c .before .before .before .loop3 .inv .1, c .before .before .before .before .before .before .before .before .before .before .before .pre .1 .1 .1))
-
-add-j : tie.Need-add-j Inv-loop μ-loop Inv-loop2 μ-loop2 Inv-loop3 μ-loop3
-add-j c = search needs
-
-loop3-less : tie.Need-loop3-less Inv-loop μ-loop Inv-loop2 μ-loop2 Inv-loop3 μ-loop3
-loop3-less c = search needs
 
 loop3-again : tie.Need-loop3-again Inv-loop μ-loop Inv-loop2 μ-loop2 Inv-loop3 μ-loop3
 loop3-again c =
@@ -195,9 +158,6 @@ loop3-again c =
       c .before .before .write-line .ensures
       ∙ rw (← row-at rows (l .loop3 .j) room) (lines-more (routineOf (c .before .before .before .before .before .before .before .before .before .before .before .before .before .before .args .shape .kind)) (rowsIn rows) (l .loop3 .j) (now (c .before .before .before .before .before .before .before .before .before .before .before .before .before .before .args .report)) (l .loop3 .report) (l .loop3 .inv .2)),
     )
-
-same-length : tie.Need-same-length Inv-loop μ-loop Inv-loop2 μ-loop2 Inv-loop3 μ-loop3
-same-length c = search needs
 
 returns-3 : tie.Need-returns-3 Inv-loop μ-loop Inv-loop2 μ-loop2 Inv-loop3 μ-loop3
 returns-3 c =
@@ -215,22 +175,22 @@ run-steps-spec =
     μ-loop2
     Inv-loop3
     μ-loop3
-    cast-n
+    (λ c. search needs)
     loop-holds
-    array-read-begin
+    (λ c. search needs)
     begin-requires
-    add-made
-    loop-less
+    (λ c. search needs)
+    (λ c. search needs)
     loop-again
     loop2-holds
-    sub-read-step-of
-    part-read-step-of-start
-    part-read-step-of-end
-    read-step-of-requires
+    (λ c. search needs)
+    (λ c. search needs)
+    (λ c. search needs)
+    (λ c κs. search needs)
     add-k
     returns
     sub-j
-    cast-j
+    (λ c. search needs)
     judge-requires
     returns-2
     take-step-requires
@@ -238,10 +198,10 @@ run-steps-spec =
     loop2-less
     loop2-again
     loop3-holds
-    mul-write-line
+    (λ c. search needs)
     write-line-requires
-    add-j
-    loop3-less
+    (λ c. search needs)
+    (λ c. search needs)
     loop3-again
-    same-length
+    (λ c. search needs)
     returns-3)
