@@ -91,16 +91,13 @@ fn any_bad_start(kind: u8, size: u8, s: &[u8]) -> bool
 fn setup_limits(kind: u8, n: usize, size: u8, spare: u8) -> u32
     ensures { λ r. ⌜ r ≡ setupLimits mostProcesses kind n size spare ⌝ }
 {
-    let bad_kind = is_bad_kind(kind);
-    let bad_count = is_outside(1, Trace::PROCESSES as usize, n);
-    let bad_size = is_bad_size(kind, size, spare);
-    if bad_kind {
+    if is_bad_kind(kind) {
         return 3;
     }
-    if bad_count {
+    if is_outside(1, Trace::PROCESSES as usize, n) {
         return 4;
     }
-    if bad_size {
+    if is_bad_size(kind, size, spare) {
         return 5;
     }
     0
@@ -142,10 +139,13 @@ fn starts_of(kind: u8, size: u8, s: &[u8]) -> Starts
     requires { ⌜ length (now s) ≤ mostProcesses ⌝ }
     ensures { λ r. ⌜ r ≡ startsOf kind size (now (s .entry)) ⌝ }
 {
-    let mut places = [0u8; 32];
     if any_bad_start(kind, size, s) {
-        return Starts { refusal: 6, places };
+        return Starts {
+            refusal: 6,
+            places: [0; 32],
+        };
     }
+    let mut places = [0u8; 32];
     bytes::copy(s, &mut places);
     Starts { refusal: 0, places }
 }
