@@ -35,14 +35,14 @@ pub struct Shape {
     pub delta: u32,
 }
 
-// What a routine rules of a process: the least tick at which it may move, the next value of its scan, its slot (register 0 in kinds 2 and 3),
-// the value that it decided (0: none), its place. The order of the fields is their order in memory: of those tried, a run is fastest with this one.
+// What a routine rules of a process: its place, its slot (register 0 in kinds 2 and 3), the value that it decided (0: none), the least tick at
+// which it may move, the next value of its scan.
 pub struct Local {
-    pub wake: u32,
-    pub scan: u32,
+    pub place: Place,
     pub slot: SlotNumber,
     pub decided: u32,
-    pub place: Place,
+    pub wake: u32,
+    pub scan: u32,
 }
 
 // One process: that, the value that it writes (its number in kind 1, its proposal in kinds 2 and 3), its moves, its late writes, and whether it
