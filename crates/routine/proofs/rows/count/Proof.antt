@@ -34,8 +34,7 @@ add-rows-5 : tie.Need-add-rows-5
 unfolding rowIn
 add-rows-5 c =
     let a = c .before .before .before .args in
-    let kept = getD-set-other (now (a .rows)) (a .j * 8 + 6) (a .j * 8 + 7) (getD (now (a .rows)) (a .j * 8 + 6) 0 + 1) 0 (λ e. absurd (omega arith)) in
-    omega (arith, kept, c .before .before .before .pre .1 .lates)
+    rw (getD-set-other (now (a .rows)) (a .j * 8 + 6) (a .j * 8 + 7) _ 0 (λ e. absurd (omega arith))) (omega (arith, c .before .before .before .pre .1 .lates))
 
 returns : tie.Need-returns
 unfolding rowIn
