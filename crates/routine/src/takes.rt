@@ -22,7 +22,7 @@ fn leave(shape: Shape, j: usize, rows: &[u32; 288]) -> u32
     rows::slot(j, rows).0
 }
 
-// The next slot round, without its division for a slot that there is.
+// The next slot round. A slot that there is takes no division.
 fn filled(shape: Shape, j: usize, rows: &[u32; 288]) -> u32
     requires { ⌜ Inside j ⌝ }
     requires { ⌜ Sound shape ⌝ }
