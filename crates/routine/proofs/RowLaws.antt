@@ -1,15 +1,14 @@
 -- What a written number is to the rows: one row has changed, and no other.
 -- Assumes nothing.
-use Prim.Native.Nat.{ℕ, zero, suc, _+_, _*_, _≤_, _<_}
+use Prim.Native.Nat.{ℕ, _+_, _*_, _<_}
 use mathlib.Core.Path.{_≡_, refl, sym, ap, _∙_}
 use mathlib.Core.Bool.{Bool, true, false, cond}
 use mathlib.Core.List.{List}
 use native.Mathlib.Omega.{arith}
 use borrow.Author.Tests.{eqb-true, eqb-false}
 use lib.Dec.{eqb}
-use lib.ListN.{length, getD, set, length-set}
+use lib.ListN.{length, set, length-set}
 use lib.Seq.{getD-set-same, getD-set-other}
-use Rattle.terms.specs.Limits.{mostProcesses}
 use Rattle.model.specs.declared.Place.{Place}
 use Rattle.model.specs.declared.Row.{Row}
 use Rattle.model.specs.Report.{shownOf}
@@ -45,7 +44,7 @@ same-row x y e =
 abbrev pub put : ℕ → ℕ → (ℕ → ℕ) → ℕ → ℕ
 put f v x g = cond (eqb g f) v (x g)
 
--- no two numbers of rows that there are stand in one place
+-- no two numbers stand in one place
 apart : (j k f g : ℕ) → Inside j → Inside k → f < 9 → g < 9 → ((k ≡ j) × (g ≡ f) → ⊥) → position k g ≡ position j f → ⊥
 apart j k f g hj hk hf hg h = by (eqb f 8) (eqb g 8) refl refl
   where

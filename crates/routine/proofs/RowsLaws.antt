@@ -73,7 +73,7 @@ begins-none u xs =
     beyond i true e = row-at _ i (ltb-true i mostProcesses e) ∙ zeros-are-blank i
     beyond i false e = List·getD-eq-default (rowsIn (replicate 288 0)) blank {n = i} (rw (thirty-two (replicate 288 0)) (ltb-false i mostProcesses e))
 
--- a process begins as nobody does, but for place, slot and value
+-- a row that begins is a blank one, but for place, slot and value
 begins-from-blank : (κ : Routine) (j x : ℕ) → begun (begin κ j x) blank ≡ begin κ j x
 begins-from-blank Routine.Lock j x = refl
 begins-from-blank Routine.Plain j x = refl

@@ -1,4 +1,4 @@
--- The slots that a lock's process takes, as every kind has them today.
+-- The slots that a lock's process takes: the same for every kind.
 -- Assumes nothing.
 use mathlib.Core.Path.{_≡_, refl}
 use Rattle.model.specs.declared.Kind.{Kind}

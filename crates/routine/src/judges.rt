@@ -23,7 +23,7 @@ fn is_decided(place: Place) -> bool
     }
 }
 
-// 13 (below the last), 14, 15, 16, of a step of the process whose row is the j-th.
+// What refuses a step of the process in row j. Any step: 13, its tick is below the last; 14, the process has crashed. A move: 15, it has decided; 16, it still waits. 0: nothing.
 pub fn judge(j: usize, rows: &[u32; 288], last: u32, step: Step) -> u32
     requires { ⌜ Inside j ⌝ }
     ensures { λ no. ⌜ no ≡ Run.judge (rowIn (now (rows .entry)) j) last step ⌝ }

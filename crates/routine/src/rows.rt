@@ -9,12 +9,19 @@ use terms::SlotNumber;
 
 // Where each number stands in its row.
 const PLACE: usize = 0;
+
 const SLOT: usize = 1;
+
 const OWN: usize = 2;
+
 const WAKE: usize = 3;
+
 const SCAN: usize = 4;
+
 const DECIDED: usize = 5;
+
 const MOVES: usize = 6;
+
 const LATES: usize = 7;
 
 // The crash marks stand behind all rows.

@@ -22,7 +22,7 @@ fn leave(shape: Shape, j: usize, rows: &[u32; 288]) -> u32
     rows::slot(j, rows).0
 }
 
-// The next slot round, without its division for a slot that there is.
+// The next slot round. A slot that there is takes no division.
 fn filled(shape: Shape, j: usize, rows: &[u32; 288]) -> u32
     requires { ⌜ Inside j ⌝ }
     requires { ⌜ Sound shape ⌝ }
@@ -83,8 +83,8 @@ pub fn rest(shape: Shape, j: usize, rows: &mut [u32; 288])
     match kind {
         Kind::Lock => {
             let c = leave(shape, j, rows);
-            rows::to(Place::Look, j, rows);
-            rows::on(c, j, rows);
+            rows::to(Place::Look, j, rows); // fig. 3, the call
+            rows::on(c, j, rows); // fig. 3, the call
         }
         Kind::Plain => {}
         Kind::Fast => {}
@@ -101,21 +101,21 @@ pub fn look(shape: Shape, v: u32, j: usize, rows: &mut [u32; 288])
 {
     rows::count(false, j, rows);
     if v == 0 {
-        rows::to(Place::Put, j, rows);
+        rows::to(Place::Put, j, rows); // fig. 3, line 2; fig. 7, line 1; fig. 8, line 2
         return;
     }
     let kind = shape.kind;
     match kind {
         Kind::Lock => {
             let c = filled(shape, j, rows);
-            rows::to(Place::Look, j, rows);
-            rows::on(c, j, rows);
+            rows::to(Place::Look, j, rows); // fig. 3, line 2
+            rows::on(c, j, rows); // fig. 3, line 2
         }
         Kind::Plain => {
-            rows::to(Place::Wait, j, rows);
+            rows::to(Place::Wait, j, rows); // fig. 7, line 1
         }
         Kind::Fast => {
-            scan_from(shape.size, 1, j, rows);
+            scan_from(shape.size, 1, j, rows); // fig. 8, line 2
         }
     }
 }
@@ -131,16 +131,16 @@ pub fn put(shape: Shape, late: bool, j: usize, rows: &mut [u32; 288])
     match kind {
         Kind::Lock => {
             if late {
-                rows::to(Place::Check, j, rows);
+                rows::to(Place::Check, j, rows); // fig. 3, line 3
                 return;
             }
-            rows::to(Place::Wait, j, rows);
+            rows::to(Place::Wait, j, rows); // fig. 3, line 3
         }
         Kind::Plain => {
-            rows::to(Place::Look, j, rows);
+            rows::to(Place::Look, j, rows); // fig. 7, line 1
         }
         Kind::Fast => {
-            rows::to(Place::Look, j, rows);
+            rows::to(Place::Look, j, rows); // fig. 8, line 2
         }
     }
 }
@@ -154,8 +154,8 @@ pub fn wait(shape: Shape, tick: u32, j: usize, rows: &mut [u32; 288])
     ensures { λ _. ⌜ Changed j (taken shape Place.Wait (wakeAt (shape .delta) tick) 0 false) (now (rows .entry)) (now (rows .exit)) ⌝ }
 {
     rows::count(false, j, rows);
-    rows::to(Place::Check, j, rows);
-    rows::until(tick + shape.delta + 1, j, rows);
+    rows::to(Place::Check, j, rows); // fig. 3, line 3; fig. 7, line 2; fig. 8, line 3
+    rows::until(tick + shape.delta + 1, j, rows); // fig. 3, line 3; fig. 7, line 2; fig. 8, line 3
 }
 
 // The register holds v.
@@ -169,20 +169,20 @@ pub fn check(shape: Shape, v: u32, j: usize, rows: &mut [u32; 288])
     match kind {
         Kind::Lock => {
             if v == rows::own(j, rows) {
-                rows::to(Place::Critical, j, rows);
+                rows::to(Place::Critical, j, rows); // fig. 3, line 4
                 return;
             }
             let c = lost(shape, j, rows);
-            rows::to(Place::Look, j, rows);
-            rows::on(c, j, rows);
+            rows::to(Place::Look, j, rows); // fig. 3, line 4
+            rows::on(c, j, rows); // fig. 3, line 4
         }
         Kind::Plain => {
-            rows::to(Place::Decided, j, rows);
-            rows::decides(v, j, rows);
+            rows::to(Place::Decided, j, rows); // fig. 7, line 3
+            rows::decides(v, j, rows); // fig. 7, line 3
         }
         Kind::Fast => {
-            rows::to(Place::Decided, j, rows);
-            rows::decides(v, j, rows);
+            rows::to(Place::Decided, j, rows); // fig. 8, line 4
+            rows::decides(v, j, rows); // fig. 8, line 4
         }
     }
 }
@@ -197,7 +197,7 @@ pub fn critical(shape: Shape, late: bool, j: usize, rows: &mut [u32; 288])
     let kind = shape.kind;
     match kind {
         Kind::Lock => {
-            rows::to(Place::Rest, j, rows);
+            rows::to(Place::Rest, j, rows); // fig. 3, line 5
         }
         Kind::Plain => {}
         Kind::Fast => {}
@@ -215,7 +215,7 @@ pub fn flag(shape: Shape, j: usize, rows: &mut [u32; 288])
         Kind::Lock => {}
         Kind::Plain => {}
         Kind::Fast => {
-            rows::to(Place::Look, j, rows);
+            rows::to(Place::Look, j, rows); // fig. 8, line 1
         }
     }
 }
@@ -235,10 +235,10 @@ pub fn scan(shape: Shape, v: u32, j: usize, rows: &mut [u32; 288])
         Kind::Fast => {
             if v == 0 {
                 let next = rows::scan(j, rows) + 1;
-                scan_from(shape.size, next, j, rows);
+                scan_from(shape.size, next, j, rows); // fig. 8, line 3
                 return;
             }
-            rows::to(Place::Wait, j, rows);
+            rows::to(Place::Wait, j, rows); // fig. 8, line 3
         }
     }
 }

@@ -1,35 +1,25 @@
+-- `routine::rows::on` meets its contract.
+-- Assumes nothing.
 use Rattle.model.specs.Routine.{on}
 use Rattle.routine.proofs.RowLaws.{changed}
-use Rattle.routine.specs.Rows.{rowIn, turn, owning}
+use Rattle.routine.specs.Rows.{rowIn, turn}
 use denote.Ref.{now}
 use native.Mathlib.Omega.{arith}
 use mathlib.Core.Path.{refl}
 use borrow.Author.Needs.{needs}
 use Rattle.routine.proofs.rows.on.Statement.{statement}
 use Rattle.routine.proofs.rows.on.Tie as tie
-use Rattle.routine.proofs.rows.on.Reads as reads
-use Rattle.routine.proofs.rows.on.Lts as lts
 
--- src/rows.rt:151:10
-mul-rows : tie.Need-mul-rows
-mul-rows c = search needs
-
--- src/rows.rt:151:10
-add-rows : tie.Need-add-rows
-add-rows c = search needs
-
--- src/rows.rt:151:5
-mul-rows-2 : tie.Need-mul-rows-2
-mul-rows-2 c = search needs
-
--- src/rows.rt:151:5
-element-write-rows : tie.Need-element-write-rows
-element-write-rows c = search needs
-
--- src/rows.rt:147:1
 returns : tie.Need-returns
 unfolding rowIn
 returns c = let a = c .args in changed (now (a .rows)) (a .j) 1 (a .c) (c .pre) (omega arith) (turn (on (a .c))) refl
 
 pub on-spec : {M : Type 1} → statement M
-on-spec = tie.close (tie.spec mul-rows add-rows mul-rows-2 element-write-rows returns)
+on-spec =
+    tie.close
+    (tie.spec
+    (λ c. search needs)
+    (λ c. search needs)
+    (λ c. search needs)
+    (λ c. search needs)
+    returns)
