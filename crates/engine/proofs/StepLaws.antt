@@ -35,9 +35,9 @@ use Rattle.model.proofs.RunLaws.{recordAt, judgeAt, reach-start, refused-by-byt
 use Rattle.model.proofs.Rooms.{reach-room}
 use Rattle.model.proofs.ReportLaws.{ranBy, refusedRun, ran-stopped}
 use Rattle.engine.specs.Stepped.{Due, sharedOf, stepAnswer, stepRow, Stepped, Moved, ranFrom}
-use Rattle.routine.specs.Rows.{Inside, Whole, rowIn, rowsIn, Changed, taken}
-use Rattle.routine.proofs.RowLaws.{told-as}
-use Rattle.routine.proofs.RowsLaws.{row-at, changed-rows}
+use Rattle.rows.specs.Rows.{Inside, Whole, rowIn, rowsIn, Changed, taken}
+use Rattle.rows.proofs.RowLaws.{told-as}
+use Rattle.rows.proofs.RowsLaws.{row-at, changed-rows}
 
 -- ONE STEP
 
@@ -232,11 +232,11 @@ module _ (u : Shape) (xs rest old values deadlines : List ℕ) (touched : ℕ) (
       same =
           ap (λ (r : Row). back s (read .step) (a r) (after-row r)) row-is
           ∙ (λ t. record {
-              rows = sym (changed-rows inside whole (x .rows)) t;
-              bank = sym (x .bank) t;
-              shared = sym (x .shared) t;
-              last = read .step .tick;
-            })
+            rows = sym (changed-rows inside whole (x .rows)) t;
+            bank = sym (x .bank) t;
+            shared = sym (x .shared) t;
+            last = read .step .tick;
+          })
 
 -- at the end of the bytes, with the lines written
 pub ends : (u : Shape) (xs rest : List ℕ) (s : State) (at k : ℕ) → Going u (fresh u xs) rest s at k → length rest ≤ at → (old now : List ℕ)

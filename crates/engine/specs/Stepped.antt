@@ -17,7 +17,7 @@ use Rattle.model.specs.Time.{wakeAt}
 use Rattle.model.specs.Routine.{askAt, rowAfter, crash}
 use Rattle.model.specs.Memory.{Answered, bankAfter, sharedAfter, answerOf}
 use Rattle.model.specs.Run.{Progress, isMove, fresh, reach, records}
-use Rattle.routine.specs.Rows.{rowIn, Changed}
+use Rattle.rows.specs.Rows.{rowIn, Changed}
 use Rattle.model.specs.Report.{Ran, outcomeOf, reportOf}
 
 -- a process that there may be

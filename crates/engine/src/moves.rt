@@ -6,11 +6,10 @@ ghost use lib.ListN.{getD};
 ghost use Rattle.terms.specs.Limits.{mostSlots, topTick};
 ghost use Rattle.bank.specs.Registers.{bankOf};
 ghost use Rattle.model.specs.Bounds.{Sound, Room};
-ghost use Rattle.routine.specs.Rows.{rowIn, Inside, Whole};
+ghost use Rattle.rows.specs.Rows.{rowIn, Inside, Whole};
 ghost use Rattle.engine.specs.Stepped.{Numbered, Due, sharedOf, Moved, Stepped};
 use model::Place;
 use model::Shape;
-use routine::rows;
 use routine::takes;
 use steps::Step;
 use terms::ProcessNumber;
@@ -113,5 +112,15 @@ pub fn take_step(
         rows::crash(j, rows);
         return;
     }
-    make_move(shape, step.process, step.tick, j, rows, values, deadlines, last, flags);
+    make_move(
+        shape,
+        step.process,
+        step.tick,
+        j,
+        rows,
+        values,
+        deadlines,
+        last,
+        flags,
+    );
 }

@@ -6,9 +6,8 @@ ghost use lib.ListN.{length, take, drop};
 ghost use Rattle.model.specs.Routine.{routineOf};
 ghost use Rattle.model.specs.Run.{lineWidth};
 ghost use Rattle.model.specs.Report.{shownPlace, figureOf, line};
-ghost use Rattle.routine.specs.Rows.{rowIn, Inside};
+ghost use Rattle.rows.specs.Rows.{rowIn, Inside};
 use model::Kind;
-use routine::rows;
 
 fn shown_place(j: usize, rows: &[u32; 288]) -> u32
     requires { ⌜ Inside j ⌝ }

@@ -13,7 +13,6 @@ use model::Kind;
 use model::Outcome;
 use model::Shape;
 use routine::judges;
-use routine::rows;
 use setups::Setup;
 use steps::Step;
 use terms::Trace;

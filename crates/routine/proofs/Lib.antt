@@ -1,5 +1,3 @@
-pub mod RowLaws
-pub mod RowsLaws
 pub mod Settled
 pub mod SlotLaws
 pub mod TakeLaws

@@ -7,7 +7,7 @@ use Rattle.model.specs.declared.Place.{Place}
 use Rattle.model.specs.declared.Shape.{Shape}
 use Rattle.model.specs.declared.Row.{Row}
 use Rattle.model.specs.Routine.{Routine, routine, to, until, nextOf, counted}
-use Rattle.routine.specs.Rows.{taken}
+use Rattle.rows.specs.Rows.{taken}
 
 module _ (u : Shape) (w : ℕ) (r : Row) where
   empty : (k : Routine) → counted false (to Place.Put (r .local)) r ≡ counted false (nextOf k u (r .own) Place.Look true 0 w (r .local)) r

@@ -2,8 +2,7 @@
 ghost use mathlib.Core.Path.{_≡_};
 ghost use Rattle.model.specs.Run;
 ghost use Rattle.model.specs.Routine.{isDecided};
-ghost use Rattle.routine.specs.Rows.{rowIn, Inside};
-use crate::rows;
+ghost use Rattle.rows.specs.Rows.{rowIn, Inside};
 use model::Place;
 use steps::Step;
 

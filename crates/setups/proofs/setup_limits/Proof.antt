@@ -13,20 +13,18 @@ returns-2 c =
 
 returns-3 : tie.Need-returns-3
 returns-3 c =
-    simp
-    (
+    simp (
       sym (c .before .before .before .before .before .is-bad-kind .ensures) ∙ c .before .before .before .before .if1 .left,
       sym (c .before .before .before .is-outside .ensures) ∙ c .before .before .if2 .left,
-      sym (c .before .is-bad-size .ensures) ∙ c .if3 .taken
+      sym (c .before .is-bad-size .ensures) ∙ c .if3 .taken,
     )
 
 returns-4 : tie.Need-returns-4
 returns-4 c =
-    simp
-    (
+    simp (
       sym (c .before .before .before .before .before .is-bad-kind .ensures) ∙ c .before .before .before .before .if1 .left,
       sym (c .before .before .before .is-outside .ensures) ∙ c .before .before .if2 .left,
-      sym (c .before .is-bad-size .ensures) ∙ c .if3 .left
+      sym (c .before .is-bad-size .ensures) ∙ c .if3 .left,
     )
 
 pub setup-limits-spec : {M : Type 1} → statement M

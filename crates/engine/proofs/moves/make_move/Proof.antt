@@ -2,7 +2,7 @@
 -- Assumes nothing.
 use Rattle.engine.proofs.StepLaws.{answeredRead, answeredWrite, moves-at}
 use Rattle.engine.specs.Stepped.{sharedOf}
-use Rattle.routine.specs.Rows.{rowIn}
+use Rattle.rows.specs.Rows.{rowIn}
 use Rattle.model.specs.Memory.{answerOf}
 use Rattle.model.specs.Routine.{askAt}
 use Rattle.model.specs.Bounds.{AskFits}

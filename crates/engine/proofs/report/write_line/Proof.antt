@@ -3,7 +3,7 @@
 use native.Mathlib.Omega.{arith}
 use lib.ListN.{length-set}
 use denote.Ref.{now}
-use Rattle.routine.specs.Rows.{rowIn}
+use Rattle.rows.specs.Rows.{rowIn}
 use Rattle.model.specs.Routine.{routineOf}
 use Rattle.model.proofs.ReportLaws.{line-stored}
 use borrow.Author.Needs.{needs}

@@ -19,8 +19,8 @@ use Rattle.model.specs.Run.{fresh}
 use Rattle.model.specs.Report.{lines}
 use Rattle.model.proofs.StartLaws.{Filled, filled-done}
 use Rattle.model.proofs.ReportLaws.{lines-more}
-use Rattle.routine.specs.Rows.{Inside, Whole, rowIn, rowsIn}
-use Rattle.routine.proofs.RowsLaws.{thirty-two, row-at, begins-none, begins-more}
+use Rattle.rows.specs.Rows.{Inside, Whole, rowIn, rowsIn}
+use Rattle.rows.proofs.RowsLaws.{thirty-two, row-at, begins-none, begins-more}
 use Rattle.engine.specs.Stepped.{Due}
 use Rattle.engine.proofs.StepLaws.{stateOf, Going, begins, begun, unread, whole, due, inside, roomy-in-place, unfit-in-place, lands-in-place, ends}
 use Rattle.engine.proofs.runs.run_steps.Statement.{statement}
@@ -134,11 +134,10 @@ loop2-less c = omega (arith, c .before .before .before .before .before .before .
 loop2-again : tie.Need-loop2-again Inv-loop μ-loop Inv-loop2 μ-loop2 Inv-loop3 μ-loop3
 loop2-again c =
     let m = c .before .before .before .before .before .before .before .before .before .before .before .before .before in
-    let l = m .before .before .before in
-    (
+    let l = m .before .before .before in (
       c .take-step .ensures .rows .long ∙ l .loop2 .inv .0,
       begun (sym (freshly (l .before)))
-      (lands-in-place _ _ _ _ _ _ _ _ _ _ _ (here l) (m .before .before .loop2-test .taken) (m .read-step-of .result) (found m) (c .before .before .before .before .before .before .before .before .before .before .before .if1 .left) (m .before .before .before .before .before .before .before .before .before .pre .0 .few) (c .before .before .before .before .before .before .before .judge .ensures) (c .before .before .before .before .before .before .if2 .left) (l .loop2 .inv .0) (c .take-step .ensures)),
+          (lands-in-place _ _ _ _ _ _ _ _ _ _ _ (here l) (m .before .before .loop2-test .taken) (m .read-step-of .result) (found m) (c .before .before .before .before .before .before .before .before .before .before .before .if1 .left) (m .before .before .before .before .before .before .before .before .before .pre .0 .few) (c .before .before .before .before .before .before .before .judge .ensures) (c .before .before .before .before .before .before .if2 .left) (l .loop2 .inv .0) (c .take-step .ensures)),
     )
 
 loop3-holds : tie.Need-loop3-holds Inv-loop μ-loop Inv-loop2 μ-loop2 Inv-loop3 μ-loop3
@@ -156,7 +155,7 @@ loop3-again c =
       omega arith,
       search needs,
       c .before .before .write-line .ensures
-      ∙ rw (← row-at rows (l .loop3 .j) room) (lines-more (routineOf (c .before .before .before .before .before .before .before .before .before .before .before .before .before .before .args .shape .kind)) (rowsIn rows) (l .loop3 .j) (now (c .before .before .before .before .before .before .before .before .before .before .before .before .before .before .args .report)) (l .loop3 .report) (l .loop3 .inv .2)),
+          ∙ rw (← row-at rows (l .loop3 .j) room) (lines-more (routineOf (c .before .before .before .before .before .before .before .before .before .before .before .before .before .before .args .shape .kind)) (rowsIn rows) (l .loop3 .j) (now (c .before .before .before .before .before .before .before .before .before .before .before .before .before .before .args .report)) (l .loop3 .report) (l .loop3 .inv .2)),
     )
 
 returns-3 : tie.Need-returns-3 Inv-loop μ-loop Inv-loop2 μ-loop2 Inv-loop3 μ-loop3

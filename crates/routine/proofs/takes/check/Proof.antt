@@ -1,6 +1,6 @@
 -- `routine::takes::check` meets its contract.
 -- Assumes nothing.
-use Rattle.routine.proofs.RowLaws.{also, told-as}
+use Rattle.rows.proofs.RowLaws.{also, told-as}
 use borrow.Author.Tests.{eq-eqb, ne-eqb}
 use mathlib.Core.Path.{ap, _∙_, sym}
 use Rattle.model.specs.Routine.{slots}

@@ -1,6 +1,6 @@
 -- `routine::takes::critical` meets its contract.
 -- Assumes nothing.
-use Rattle.routine.proofs.RowLaws.{also, told-as}
+use Rattle.rows.proofs.RowLaws.{also, told-as}
 use borrow.Author.Needs.{needs}
 use Rattle.routine.proofs.takes.critical.Statement.{statement}
 use Rattle.routine.proofs.takes.critical.Tie as tie

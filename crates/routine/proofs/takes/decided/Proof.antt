@@ -1,6 +1,6 @@
 -- `routine::takes::decided` meets its contract.
 -- Assumes nothing.
-use Rattle.routine.proofs.RowLaws.{told-as}
+use Rattle.rows.proofs.RowLaws.{told-as}
 use Rattle.routine.proofs.TakeLaws.{stays}
 use borrow.Author.Needs.{needs}
 use Rattle.routine.proofs.takes.decided.Statement.{statement}

@@ -1,6 +1,6 @@
 -- `routine::takes::flag` meets its contract.
 -- Assumes nothing.
-use Rattle.routine.proofs.RowLaws.{also, told-as}
+use Rattle.rows.proofs.RowLaws.{also, told-as}
 use borrow.Author.Needs.{needs}
 use Rattle.routine.proofs.takes.flag.Statement.{statement}
 use Rattle.routine.proofs.takes.flag.Tie as tie

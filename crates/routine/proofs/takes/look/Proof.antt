@@ -1,6 +1,6 @@
 -- `routine::takes::look` meets its contract.
 -- Assumes nothing.
-use Rattle.routine.proofs.RowLaws.{also, told-as}
+use Rattle.rows.proofs.RowLaws.{also, told-as}
 use Rattle.routine.proofs.TakeLaws.{looked}
 use borrow.Author.Tests.{ne-eqb}
 use mathlib.Core.Path.{ap, _∙_, sym, subst}

@@ -1,6 +1,6 @@
 -- `routine::takes::rest` meets its contract.
 -- Assumes nothing.
-use Rattle.routine.proofs.RowLaws.{also, told-as}
+use Rattle.rows.proofs.RowLaws.{also, told-as}
 use mathlib.Core.Path.{ap, _∙_}
 use Rattle.model.specs.Routine.{slots}
 use Rattle.model.specs.declared.Row.{Row}

@@ -1,6 +1,6 @@
 -- `routine::takes::scan_at` meets its contract.
 -- Assumes nothing.
-use Rattle.routine.proofs.RowLaws.{also, told-as}
+use Rattle.rows.proofs.RowLaws.{also, told-as}
 use borrow.Author.Tests.{le-leb, lt-leb}
 use borrow.Author.Needs.{needs}
 use Rattle.routine.proofs.takes.scan_at.Statement.{statement}

@@ -1,6 +1,6 @@
 -- `routine::takes::scan_from` meets its contract.
 -- Assumes nothing.
-use Rattle.routine.proofs.RowLaws.{told-as}
+use Rattle.rows.proofs.RowLaws.{told-as}
 use borrow.Author.Tests.{eq-eqb, ne-eqb}
 use mathlib.Core.Path.{sym, _∙_}
 use borrow.Author.Needs.{needs}

@@ -1,6 +1,6 @@
 -- `routine::takes::wait` meets its contract.
 -- Assumes nothing.
-use Rattle.routine.proofs.RowLaws.{also, told-as}
+use Rattle.rows.proofs.RowLaws.{also, told-as}
 use Rattle.routine.proofs.TakeLaws.{waits}
 use borrow.Author.Needs.{needs}
 use Rattle.routine.proofs.takes.wait.Statement.{statement}

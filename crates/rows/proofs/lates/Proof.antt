@@ -1,0 +1,21 @@
+-- `rows::lates` meets its contract.
+-- Assumes nothing.
+use Rattle.rows.specs.Rows.{rowIn}
+use mathlib.Core.Path.{refl}
+use borrow.Author.Needs.{needs}
+use Rattle.rows.proofs.lates.Statement.{statement}
+use Rattle.rows.proofs.lates.Tie as tie
+
+returns : tie.Need-returns
+unfolding rowIn
+returns c = refl
+
+pub lates-spec : {M : Type 1} → statement M
+lates-spec =
+    tie.close
+    (tie.spec
+    (λ c. search needs)
+    (λ c. search needs)
+    (λ c. search needs)
+    (λ c. search needs)
+    returns)
