@@ -58,9 +58,10 @@ unfolding afterRead
 returns-2 c =
     let a = c .before .before .before .before .before .before .before .before .before .before .before .before .args in
     let bank = bankOf (now (a .values)) (now (a .deadlines)) (now (a .last)) in
-    moves-at _ _ _ _ _ _ _ _ _ _ Place.Look (sym (c .before .before .before .before .before .before .before .before .place .ensures) ∙ c .before .before .before .before .before .before .enum-told2 .given .1) _
-    (ap (answeredRead (now (a .values)) (sharedOf (now (a .flags)))) (c .before .before .read-granted .ensures)
-    ∙ ap (λ (s : SlotNumber). answerOf bank (sharedOf (now (a .flags))) (a .i) (a .tick) (Ask.Read s (a .shape .delta))) (c .before .before .before .before .before .before .before .before .before .before .slot .ensures))
+    let shared = sharedOf (now (a .flags)) in
+    moves-at (a .shape) (a .i) (a .tick) (a .j) (now (a .rows)) _ bank _ shared _ Place.Look (sym (c .before .before .before .before .before .before .before .before .place .ensures) ∙ c .before .before .before .before .before .before .enum-told2 .given .1) _
+    (ap (answeredRead (now (a .values)) shared) (c .before .before .read-granted .ensures)
+    ∙ ap (λ (s : SlotNumber). answerOf bank shared (a .i) (a .tick) (Ask.Read s (a .shape .delta))) (c .before .before .before .before .before .before .before .before .before .before .slot .ensures))
     (c .look .ensures _) refl refl
 
 returns-3 : tie.Need-returns-3
@@ -68,9 +69,10 @@ unfolding afterWrite
 returns-3 c =
     let a = c .before .before .before .before .before .before .before .before .before .before .before .before .before .before .args in
     let bank = bankOf (now (a .values)) (now (a .deadlines)) (now (a .last)) in
-    moves-at _ _ _ _ _ _ _ _ _ _ Place.Put (sym (c .before .before .before .before .before .before .before .before .before .before .place .ensures) ∙ c .before .before .before .before .before .before .before .before .enum-told3 .given .1) _
-    (ap (answeredWrite (sharedOf (now (a .flags)))) (c .before .before .write-granted .ensures)
-    ∙ ap₂ (λ (s : SlotNumber) (v : ℕ). answerOf bank (sharedOf (now (a .flags))) (a .i) (a .tick) (Ask.Write s v)) (c .before .before .before .before .before .before .before .before .before .before .before .before .slot .ensures) (c .before .before .before .before .before .before .own .ensures))
+    let shared = sharedOf (now (a .flags)) in
+    moves-at (a .shape) (a .i) (a .tick) (a .j) (now (a .rows)) _ bank _ shared _ Place.Put (sym (c .before .before .before .before .before .before .before .before .before .before .place .ensures) ∙ c .before .before .before .before .before .before .before .before .enum-told3 .given .1) _
+    (ap (answeredWrite shared) (c .before .before .write-granted .ensures)
+    ∙ ap₂ (λ (s : SlotNumber) (v : ℕ). answerOf bank shared (a .i) (a .tick) (Ask.Write s v)) (c .before .before .before .before .before .before .before .before .before .before .before .before .slot .ensures) (c .before .before .before .before .before .before .own .ensures))
     (c .put .ensures _) refl refl
 
 returns-4 : tie.Need-returns-4
@@ -81,9 +83,10 @@ unfolding afterRead
 returns-5 c =
     let a = c .before .before .before .before .before .before .before .before .before .before .before .before .args in
     let bank = bankOf (now (a .values)) (now (a .deadlines)) (now (a .last)) in
-    moves-at _ _ _ _ _ _ _ _ _ _ Place.Check (sym (c .before .before .before .before .before .before .before .before .place .ensures) ∙ c .before .before .before .before .before .before .enum-told5 .given .1) _
-    (ap (answeredRead (now (a .values)) (sharedOf (now (a .flags)))) (c .before .before .read-granted2 .ensures)
-    ∙ ap (λ (s : SlotNumber). answerOf bank (sharedOf (now (a .flags))) (a .i) (a .tick) (Ask.Read s unlimited)) (c .before .before .before .before .before .before .before .before .before .before .slot .ensures))
+    let shared = sharedOf (now (a .flags)) in
+    moves-at (a .shape) (a .i) (a .tick) (a .j) (now (a .rows)) _ bank _ shared _ Place.Check (sym (c .before .before .before .before .before .before .before .before .place .ensures) ∙ c .before .before .before .before .before .before .enum-told5 .given .1) _
+    (ap (answeredRead (now (a .values)) shared) (c .before .before .read-granted2 .ensures)
+    ∙ ap (λ (s : SlotNumber). answerOf bank shared (a .i) (a .tick) (Ask.Read s unlimited)) (c .before .before .before .before .before .before .before .before .before .before .slot .ensures))
     (c .check .ensures _) refl refl
 
 returns-6 : tie.Need-returns-6
@@ -91,26 +94,29 @@ unfolding afterWrite
 returns-6 c =
     let a = c .before .before .before .before .before .before .before .before .before .before .before .before .args in
     let bank = bankOf (now (a .values)) (now (a .deadlines)) (now (a .last)) in
-    moves-at _ _ _ _ _ _ _ _ _ _ Place.Critical (sym (c .before .before .before .before .before .before .before .before .place .ensures) ∙ c .before .before .before .before .before .before .enum-told6 .given .1) _
-    (ap (answeredWrite (sharedOf (now (a .flags)))) (c .before .before .write-granted2 .ensures)
-    ∙ ap (λ (s : SlotNumber). answerOf bank (sharedOf (now (a .flags))) (a .i) (a .tick) (Ask.Write s 0)) (c .before .before .before .before .before .before .before .before .before .before .slot .ensures))
+    let shared = sharedOf (now (a .flags)) in
+    moves-at (a .shape) (a .i) (a .tick) (a .j) (now (a .rows)) _ bank _ shared _ Place.Critical (sym (c .before .before .before .before .before .before .before .before .place .ensures) ∙ c .before .before .before .before .before .before .enum-told6 .given .1) _
+    (ap (answeredWrite shared) (c .before .before .write-granted2 .ensures)
+    ∙ ap (λ (s : SlotNumber). answerOf bank shared (a .i) (a .tick) (Ask.Write s 0)) (c .before .before .before .before .before .before .before .before .before .before .slot .ensures))
     (c .critical .ensures _) refl refl
 
 returns-7 : tie.Need-returns-7
 returns-7 c =
     let a = c .before .before .before .before .before .before .before .before .before .before .args in
     let bank = bankOf (now (a .values)) (now (a .deadlines)) (now (a .last)) in
-    moves-at _ _ _ _ _ _ _ _ _ _ Place.Flag (sym (c .before .before .before .before .before .before .place .ensures) ∙ c .before .before .before .before .enum-told7 .given .1) _
-    (ap (λ (v : ℕ). answerOf bank (sharedOf (now (a .flags))) (a .i) (a .tick) (Ask.Raise v)) (c .before .before .own2 .ensures))
+    let shared = sharedOf (now (a .flags)) in
+    moves-at (a .shape) (a .i) (a .tick) (a .j) (now (a .rows)) _ bank _ shared _ Place.Flag (sym (c .before .before .before .before .before .before .place .ensures) ∙ c .before .before .before .before .enum-told7 .given .1) _
+    (ap (λ (v : ℕ). answerOf bank shared (a .i) (a .tick) (Ask.Raise v)) (c .before .before .own2 .ensures))
     (c .flag .ensures _) refl refl
 
 returns-8 : tie.Need-returns-8
 returns-8 c =
     let a = c .before .before .before .before .before .before .before .before .before .before .before .before .args in
     let bank = bankOf (now (a .values)) (now (a .deadlines)) (now (a .last)) in
-    moves-at _ _ _ _ _ _ _ _ _ _ Place.Scan (sym (c .before .before .before .before .before .before .before .before .place .ensures) ∙ c .before .before .before .before .before .before .enum-told8 .given .1) _
+    let shared = sharedOf (now (a .flags)) in
+    moves-at (a .shape) (a .i) (a .tick) (a .j) (now (a .rows)) _ bank _ shared _ Place.Scan (sym (c .before .before .before .before .before .before .before .before .place .ensures) ∙ c .before .before .before .before .before .before .enum-told8 .given .1) _
     (ap (λ (n : ℕ). record { reply = record { value = n; late = false }; bank = bank; shared = sharedOf (now (a .flags)) }) (c .before .before .flag2 .ensures)
-    ∙ ap (λ (v : ℕ). answerOf bank (sharedOf (now (a .flags))) (a .i) (a .tick) (Ask.Peek v)) (c .before .before .before .before .scan .ensures))
+    ∙ ap (λ (v : ℕ). answerOf bank shared (a .i) (a .tick) (Ask.Peek v)) (c .before .before .before .before .scan .ensures))
     (c .scan2 .ensures _) refl refl
 
 returns-9 : tie.Need-returns-9
