@@ -15,6 +15,7 @@ use steps::Step;
 use terms::ProcessNumber;
 use terms::Wait;
 
+// The flag of value v as a number: 1 where it is set.
 fn flag(v: u32, flags: &[bool; 9]) -> u32
     requires { ⌜ v ≤ mostSlots ⌝ }
     ensures { λ n. ⌜ n ≡ cond (getD (now (flags .entry)) v false) 1 0 ⌝ }
@@ -26,6 +27,7 @@ fn flag(v: u32, flags: &[bool; 9]) -> u32
     0
 }
 
+// A move of process i, whose row is row j.
 fn make_move(
     shape: Shape,
     i: ProcessNumber,
@@ -88,7 +90,7 @@ fn make_move(
     }
 }
 
-// An accepted step of the process whose row is the j-th: a move, or a crash.
+// An accepted step of the process with row j: a move, or a crash.
 pub fn take_step(
     shape: Shape,
     step: Step,
