@@ -24,25 +24,25 @@ read-granted-requires : tie.Need-read-granted-requires
 read-granted-requires c κs =
     let pre = c .before .before .before .before .before .before .before .before .before .pre in
     let slot = subst (λ (s : SlotNumber). s .0 < 8) (sym (c .before .before .before .before .before .before .before .slot .ensures)) (pre .1 .1 .1 .1 .1 .slot) in
-    (record { least = pre .1 .0 .least; most = pre .1 .0 .most; slot = slot }, (record { top = pre .1 .1 .0 }, record { limited = λ n. pre .0 .bounded }))
+    (record { least = omega (arith, pre .1 .0 .least); most = omega (arith, pre .1 .0 .most); slot = slot }, (record { top = pre .1 .1 .0 }, record { limited = λ n. search (needs, pre .0 .bounded) }))
 
 write-granted-requires : tie.Need-write-granted-requires
 write-granted-requires c κs =
     let pre = c .before .before .before .before .before .before .before .before .before .before .before .pre in
     let slot = subst (λ (s : SlotNumber). s .0 < 8) (sym (c .before .before .before .before .before .before .before .before .before .slot .ensures)) (pre .1 .1 .1 .1 .1 .slot) in
-    record { least = pre .1 .0 .least; most = pre .1 .0 .most; slot = slot }
+    record { least = omega (arith, pre .1 .0 .least); most = omega (arith, pre .1 .0 .most); slot = slot }
 
 read-granted-requires-2 : tie.Need-read-granted-requires-2
 read-granted-requires-2 c κs =
     let pre = c .before .before .before .before .before .before .before .before .before .pre in
     let slot = subst (λ (s : SlotNumber). s .0 < 8) (sym (c .before .before .before .before .before .before .before .slot .ensures)) (pre .1 .1 .1 .1 .1 .slot) in
-    (record { least = pre .1 .0 .least; most = pre .1 .0 .most; slot = slot }, (record { top = pre .1 .1 .0 }, record { limited = λ n. absurd (n refl) }))
+    (record { least = omega (arith, pre .1 .0 .least); most = omega (arith, pre .1 .0 .most); slot = slot }, (record { top = pre .1 .1 .0 }, record { limited = λ n. search (needs, pre .0 .bounded) }))
 
 write-granted-requires-2 : tie.Need-write-granted-requires-2
 write-granted-requires-2 c κs =
     let pre = c .before .before .before .before .before .before .before .before .before .pre in
     let slot = subst (λ (s : SlotNumber). s .0 < 8) (sym (c .before .before .before .before .before .before .before .slot .ensures)) (pre .1 .1 .1 .1 .1 .slot) in
-    record { least = pre .1 .0 .least; most = pre .1 .0 .most; slot = slot }
+    record { least = omega (arith, pre .1 .0 .least); most = omega (arith, pre .1 .0 .most); slot = slot }
 
 element-write-flags : tie.Need-element-write-flags
 element-write-flags c =
