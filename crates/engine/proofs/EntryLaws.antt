@@ -15,7 +15,8 @@ use Rattle.setups.specs.Setup.{setupRefusal, setupFields, setupRead}
 use Rattle.setups.proofs.SetupLaws.{setup-said}
 use Rattle.model.specs.declared.Shape.{Shape}
 use Rattle.model.specs.Bounds.{Bytes, Sound, Starts}
-use Rattle.model.specs.Run.{lineWidth, shapeOf, restOf}
+use Rattle.model.specs.Sizes.{lineWidth}
+use Rattle.model.specs.Run.{shapeOf, restOf}
 use Rattle.model.specs.Report.{Ran, ranOf}
 use Rattle.model.proofs.SetupSays.{setup-sound, setup-starts}
 use Rattle.model.proofs.ReportLaws.{refusedRun, ran-unset, ran-narrow, ran-long, ran-on}

@@ -8,6 +8,7 @@ ghost use Rattle.bank.specs.Registers.{bankOf};
 ghost use Rattle.model.specs.Bounds.{Sound, Room};
 ghost use Rattle.rows.specs.Rows.{rowIn, Inside, Whole};
 ghost use Rattle.engine.specs.Stepped.{Numbered, Due, sharedOf, Moved, Stepped};
+use model::FLAGS;
 use model::Place;
 use model::Shape;
 use routine::takes;
@@ -16,7 +17,7 @@ use terms::ProcessNumber;
 use terms::Wait;
 
 // The flag of value v as a number: 1 where it is set.
-fn flag(v: u32, flags: &[bool; 9]) -> u32
+fn flag(v: u32, flags: &[bool; FLAGS]) -> u32
     requires { ⌜ v ≤ mostSlots ⌝ }
     ensures { λ n. ⌜ n ≡ cond (getD (now (flags .entry)) v false) 1 0 ⌝ }
 {
@@ -37,7 +38,7 @@ fn make_move(
     values: &mut [u32; 8],
     deadlines: &mut [u32; 256],
     last: &mut u32,
-    flags: &mut [bool; 9],
+    flags: &mut [bool; FLAGS],
 )
     requires { ⌜ Sound shape ⌝ }
     requires { ⌜ Numbered i ⌝ }
@@ -99,7 +100,7 @@ pub fn take_step(
     values: &mut [u32; 8],
     deadlines: &mut [u32; 256],
     last: &mut u32,
-    flags: &mut [bool; 9],
+    flags: &mut [bool; FLAGS],
 )
     requires { ⌜ Sound shape ⌝ }
     requires { ⌜ Due step ⌝ }

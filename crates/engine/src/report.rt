@@ -4,7 +4,7 @@ ghost use mathlib.Core.List.{_++_};
 ghost use Prim.Native.Nat.{_+_, _≤_};
 ghost use lib.ListN.{length, take, drop};
 ghost use Rattle.model.specs.Routine.{routineOf};
-ghost use Rattle.model.specs.Run.{lineWidth};
+ghost use Rattle.model.specs.Sizes.{lineWidth};
 ghost use Rattle.model.specs.Report.{shownPlace, figureOf, line};
 ghost use Rattle.rows.specs.Rows.{rowIn, Inside};
 use model::Kind;

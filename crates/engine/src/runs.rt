@@ -4,12 +4,15 @@ ghost use Prim.Native.Nat.{_*_, _≤_};
 ghost use lib.ListN.{length};
 ghost use Rattle.terms.specs.Limits.{mostSteps};
 ghost use Rattle.model.specs.Bounds.{Sound, Starts};
-ghost use Rattle.model.specs.Run.{lineWidth, shapeOf, kindOf};
+ghost use Rattle.model.specs.Sizes.{lineWidth};
+ghost use Rattle.model.specs.Run.{shapeOf, kindOf};
 ghost use Rattle.model.specs.Report.{ranOf};
 ghost use Rattle.engine.specs.Stepped.{ranFrom};
 use crate::moves;
 use crate::report;
+use model::FLAGS;
 use model::Kind;
+use model::LINE;
 use model::Outcome;
 use model::Shape;
 use routine::judges;
@@ -37,7 +40,7 @@ fn run_steps(shape: Shape, starts: [u8; 32], rest: &[u8], report: &mut [u32]) ->
     let mut values = [0u32; 8];
     let mut deadlines = [Wait::UNLIMITED; 256];
     let mut touched: u32 = 0;
-    let mut flags = [false; 9];
+    let mut flags = [false; FLAGS];
     let mut last: u32 = 0;
     let mut at: usize = 0;
     let mut k: u32 = 0;
@@ -72,7 +75,7 @@ fn run_steps(shape: Shape, starts: [u8; 32], rest: &[u8], report: &mut [u32]) ->
     }
     let mut j: usize = 0;
     while j < n {
-        report::write_line(kind, j, &rows, j * 4, report);
+        report::write_line(kind, j, &rows, j * LINE, report);
         j = j + 1;
     }
     Outcome { number: 0, at: k }
@@ -113,7 +116,7 @@ pub fn run(trace: &[u8], report: &mut [u32]) -> Outcome
     }
     let setup = read.setup;
     let n = setup.processes as usize;
-    if report.len() < 4 * n {
+    if report.len() < LINE * n {
         return Outcome { number: 7, at: 0 };
     }
     let begin = 8 + n;

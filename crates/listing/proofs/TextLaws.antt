@@ -14,7 +14,8 @@ use Rattle.terms.specs.Refusal.{ifAccepted}
 use Rattle.terms.proofs.RefusalLaws.{passed, if-accepted, if-refused}
 use Rattle.records.specs.Record.{byte}
 use Rattle.setups.specs.Setup.{setupRefusal}
-use Rattle.model.specs.Run.{Progress, Progress.stopped, lineWidth, restOf, records, reached, runRefusal, runOf}
+use Rattle.model.specs.Sizes.{lineWidth, reportWidth}
+use Rattle.model.specs.Run.{Progress, Progress.stopped, restOf, records, reached, runRefusal, runOf}
 use Rattle.model.specs.Report.{Ran, outcomeOf, ranOf}
 use Rattle.listing.specs.Put.{spliced, Put}
 use Rattle.listing.specs.Text.{overLine, headLine, refusedLine, processLines, ranText, mostInput, textOf, Listed}
@@ -47,7 +48,7 @@ module _ (input : List ℕ) where
   unfolding textOf
   text-over h = rw (lt-ltb mostInput (length input) h)
 
-  pub text-ran : length input ≤ mostInput → (ran : Ran) → ran ≡ ranOf input (replicate 128 0) → ranText input ran ≡ textOf input
+  pub text-ran : length input ≤ mostInput → (ran : Ran) → ran ≡ ranOf input (replicate reportWidth 0) → ranText input ran ≡ textOf input
   unfolding textOf
   text-ran h ran e = rw (le-ltb mostInput (length input) h) (ap (ranText input) e)
 

@@ -6,9 +6,11 @@ ghost use lib.ListN.{length};
 ghost use Rattle.records.specs.Record.{byte};
 ghost use Rattle.listing.specs.Put.{Put};
 ghost use Rattle.listing.specs.Text.{decimal, headLine, refusedLine, processLine, processLines, ranText, Listed};
-ghost use Rattle.model.specs.Run.{lineWidth};
+ghost use Rattle.model.specs.Sizes.{lineWidth, reportWidth};
 use engine::runs;
+use model::LINE;
 use model::Outcome;
+use model::REPORT;
 
 // The most bytes of an input.
 pub const MOST_INPUT: usize = 65536;
@@ -57,11 +59,11 @@ fn put_figure(x: u32, after: u8, at: usize, text: &mut [u8]) -> usize
 }
 
 // The line of the process at index j: number, place, second figure, moves, late writes.
-fn put_line(report: &[u32; 128], j: usize, at: usize, text: &mut [u8]) -> usize
+fn put_line(report: &[u32; REPORT], j: usize, at: usize, text: &mut [u8]) -> usize
     requires { ⌜ (j < 32) × (at + 55 ≤ length (now text)) ⌝ }
     ensures { λ r. ⌜ Put 55 at (processLine (now (report .entry)) j) (now (text .entry)) r (now (text .exit)) ⌝ }
 {
-    let line = 4 * j;
+    let line = LINE * j;
     let next = put_figure(j as u32 + 1, b' ', at, text);
     let next = put_figure(report[line], b' ', next, text);
     let next = put_figure(report[line + 1], b' ', next, text);
@@ -70,7 +72,7 @@ fn put_line(report: &[u32; 128], j: usize, at: usize, text: &mut [u8]) -> usize
 }
 
 // The lines of the first n processes.
-fn put_lines(report: &[u32; 128], n: usize, at: usize, text: &mut [u8]) -> usize
+fn put_lines(report: &[u32; REPORT], n: usize, at: usize, text: &mut [u8]) -> usize
     requires { ⌜ (n ≤ 32) × (at + 55 * n ≤ length (now text)) ⌝ }
     ensures { λ r. ⌜ Put (55 * n) at (processLines (now (report .entry)) n) (now (text .entry)) r (now (text .exit)) ⌝ }
 {
@@ -108,8 +110,8 @@ fn put_refused(number: u32, index: u32, text: &mut [u8]) -> usize
 }
 
 // What a run returned and left: its lines, or its refusal.
-fn put_ran(input: &[u8], ran: Outcome, report: &[u32; 128], text: &mut [u8]) -> usize
-    requires { ⌜ (ran .number ≡ 0 → lineWidth * byte 3 (now input) ≤ 128) × (2048 ≤ length (now text)) ⌝ }
+fn put_ran(input: &[u8], ran: Outcome, report: &[u32; REPORT], text: &mut [u8]) -> usize
+    requires { ⌜ (ran .number ≡ 0 → lineWidth * byte 3 (now input) ≤ reportWidth) × (2048 ≤ length (now text)) ⌝ }
     ensures { λ r. ⌜ Put 2048 0 (ranText (now (input .entry)) (record { outcome = ran; report = now (report .entry) })) (now (text .entry)) r (now (text .exit)) ⌝ }
 {
     if ran.number != 0 {
@@ -128,7 +130,7 @@ pub fn list(input: &[u8], text: &mut [u8; 2048]) -> usize
     if input.len() > MOST_INPUT {
         return put_word(b"input over 65536\n", 0, text);
     }
-    let mut report = [0; 128];
+    let mut report = [0; REPORT];
     let ran = runs::run(input, &mut report);
     put_ran(input, ran, &report, text)
 }

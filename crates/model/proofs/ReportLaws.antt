@@ -19,7 +19,8 @@ use Rattle.setups.specs.Setup.{setupRefusal, setupFields}
 use Rattle.model.specs.declared.Shape.{Shape}
 use Rattle.model.specs.declared.Row.{Row}
 use Rattle.model.specs.Routine.{Routine}
-use Rattle.model.specs.Run.{blank, lineWidth, shapeOf, restOf, runRefusal, runOf, records, reached, Progress, Progress.going, Progress.stopped}
+use Rattle.model.specs.Sizes.{lineWidth}
+use Rattle.model.specs.Run.{blank, shapeOf, restOf, runRefusal, runOf, records, reached, Progress, Progress.going, Progress.stopped}
 use Rattle.model.specs.Report.{shownPlace, figureOf, line, lines, reportOf, outcomeOf, Ran, ranOf}
 use Rattle.model.proofs.RunLaws.{run-refused, run-reaches}
 

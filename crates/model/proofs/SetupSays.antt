@@ -16,7 +16,8 @@ use Rattle.setups.proofs.SetupLaws.{AcceptedSetup, setup-said, start-good, slot
 use Rattle.model.specs.declared.Kind.{Kind}
 use Rattle.model.specs.Routine.{routineOf}
 use Rattle.model.specs.Bounds.{Bytes, Sound, startOk, Starts}
-use Rattle.model.specs.Run.{kindOf, shapeOf, restOf, lineWidth, runRefusal}
+use Rattle.model.specs.Sizes.{lineWidth}
+use Rattle.model.specs.Run.{kindOf, shapeOf, restOf, runRefusal}
 
 start-ok : (kind size x : ℕ) → badStart kind size x ≡ false → startOk (routineOf (kindOf kind)) size x
 start-ok kind size x good = by (eqb kind 1) refl (eqb kind 2)

@@ -19,7 +19,8 @@ use Rattle.model.specs.declared.Shape.{Shape}
 use Rattle.model.specs.declared.Row.{Row}
 use Rattle.model.specs.declared.State.{State}
 use Rattle.model.specs.Routine.{Routine, routine}
-use Rattle.model.specs.Run.{blank, rowAt, after, recordRefusal, advance, reach, restOf, records, shapeOf, reached, runRefusal, runOf, lineWidth, Progress, Progress.going, Progress.stopped}
+use Rattle.model.specs.Sizes.{lineWidth}
+use Rattle.model.specs.Run.{blank, rowAt, after, recordRefusal, advance, reach, restOf, records, shapeOf, reached, runRefusal, runOf, Progress, Progress.going, Progress.stopped}
 use Rattle.model.specs.Claims.{shown}
 use Rattle.model.specs.Report.{shownOf, shownPlace, figureOf, line, lines, reportOf, outcomeOf, ranOf}
 use Rattle.model.proofs.Places.{imply, settled, inside}

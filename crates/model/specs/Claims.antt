@@ -14,7 +14,8 @@ use Rattle.model.specs.declared.Shape.{Shape}
 use Rattle.model.specs.declared.Row.{Row}
 use Rattle.model.specs.declared.State.{State}
 use Rattle.model.specs.Bounds.{Bytes}
-use Rattle.model.specs.Run.{rowAt, shapeOf, restOf, startOf, reached, lineWidth, Progress.going}
+use Rattle.model.specs.Sizes.{lineWidth}
+use Rattle.model.specs.Run.{rowAt, shapeOf, restOf, startOf, reached, Progress.going}
 use Rattle.model.specs.Counts.{movesOf, latesOf}
 use Rattle.model.specs.Report.{ranOf}
 

@@ -1,3 +1,4 @@
+pub mod Sizes
 pub mod Time
 pub mod Routine
 pub mod Memory

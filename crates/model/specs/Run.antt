@@ -14,6 +14,7 @@ use Rattle.steps.specs.declared.Step.{Step}
 use Rattle.records.specs.Record.{byte}
 use Rattle.setups.specs.Setup.{setupRefusal, setupFields}
 use Rattle.steps.specs.Step.{stepRefusal, stepFields}
+use Rattle.model.specs.Sizes.{lineWidth, flagCount}
 use Rattle.model.specs.declared.Place.{Place}
 use Rattle.model.specs.declared.Kind.{Kind}
 use Rattle.model.specs.declared.Shape.{Shape}
@@ -48,7 +49,7 @@ startRows u j (x ∷ xs) = startRow u j x ∷ startRows u (suc j) xs
 
 unfoldable pub fresh : Shape → List ℕ → State
 fresh u starts =
-    record { rows = startRows u 0 starts; bank = freshBank; shared = record { flags = replicate 9 false }; last = 0 }
+    record { rows = startRows u 0 starts; bank = freshBank; shared = record { flags = replicate flagCount false }; last = 0 }
 
 -- A MOVE of process i at tick t, at place p; and a crash
 
@@ -120,10 +121,6 @@ shapeOf f = record { kind = kindOf (f .kind); count = f .processes; size = f .si
 
 abbrev pub restOf : List ℕ → List ℕ
 restOf trace = drop (8 + byte 3 trace) trace
-
--- the numbers of a line of the report
-abbrev pub lineWidth : ℕ
-lineWidth = 4
 
 -- 1 to 6; 7; 8; with a report of `room` numbers
 unfoldable pub runRefusal : List ℕ → ℕ → ℕ

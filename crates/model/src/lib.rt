@@ -6,6 +6,17 @@ ghost use Rattle.model.specs.Routine.{routineOf};
 ghost use Rattle.model.specs.Run.{startRows};
 use bank::Bank;
 use terms::SlotNumber;
+use terms::Trace;
+
+// Sizes. specs/Sizes.antt has the same numbers for the prover.
+
+// The numbers of a process in the report, and of all that there may be.
+pub const LINE: usize = 4;
+
+pub const REPORT: usize = LINE * Trace::PROCESSES as usize;
+
+// The flag of value v stands at v; entry 0 is not used.
+pub const FLAGS: usize = Trace::SLOTS as usize + 1;
 
 // Where a process stands. A crash is no place: it is a mark beside it, in the row.
 pub enum Place {
@@ -55,9 +66,9 @@ pub struct Row {
     pub crashed: bool,
 }
 
-// Memory with no deadlines: the flag of value v stands at v, entry 0 is not used.
+// Memory with no deadlines.
 pub struct Shared {
-    pub flags: [bool; 9],
+    pub flags: [bool; FLAGS],
 }
 
 // The state of a run. Its last tick is that of the last accepted step; the bank's moves with reads and writes only.
@@ -150,7 +161,7 @@ impl State {
         State {
             rows,
             bank,
-            shared: Shared { flags: [false; 9] },
+            shared: Shared { flags: [false; FLAGS] },
             last: 0,
         }
     }

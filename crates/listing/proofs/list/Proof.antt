@@ -1,7 +1,8 @@
--- `list` meets its contract: the two cases of the text, over the limit or not. The report of 128 numbers has room for every accepted setup.
+-- `list` meets its contract: the two cases of the text, over the limit or not. The report has room for every accepted setup.
 -- Assumes nothing.
 use Rattle.listing.proofs.TextLaws.{listed, accepted-fits, text-over, text-ran}
 use lib.ListN.{replicate}
+use Rattle.model.specs.Sizes.{reportWidth}
 use native.Mathlib.Omega.{arith}
 use borrow.Author.Needs.{needs}
 use Rattle.listing.proofs.list.Statement.{statement}
@@ -15,7 +16,7 @@ returns c =
 put-ran-requires : tie.Need-put-ran-requires
 put-ran-requires c κs =
     let r = c .before .before .before in
-    (λ h. accepted-fits (r .before .before .before .before .args .input .now) (replicate 128 0) (rw (← r .run .ensures) h), omega arith)
+    (λ h. accepted-fits (r .before .before .before .before .args .input .now) (replicate reportWidth 0) (rw (← r .run .ensures) h), omega arith)
 
 returns-2 : tie.Need-returns-2
 returns-2 c =
