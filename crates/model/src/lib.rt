@@ -161,7 +161,9 @@ impl State {
         State {
             rows,
             bank,
-            shared: Shared { flags: [false; FLAGS] },
+            shared: Shared {
+                flags: [false; FLAGS],
+            },
             last: 0,
         }
     }
