@@ -16,8 +16,8 @@ use Rattle.model.specs.declared.Row.{Row}
 use Rattle.model.specs.Routine.{Routine, routine, begin}
 use Rattle.model.specs.Run.{blank}
 use Rattle.model.proofs.StartLaws.{Filled, filled-more}
-use Rattle.rows.specs.Rows.{Inside, Whole, position, numberAt, rowIn, rowsFrom, rowsIn, Changed, begun}
-use Rattle.rows.proofs.RowLaws.{same-row}
+use Rattle.rows.specs.Rows.{rowsWidth, IsRow, Whole, position, numberAt, rowIn, rowsFrom, rowsIn, Changed, begunIn}
+use Rattle.rows.proofs.RowLaws.{same-row, begun, begin-written}
 
 length-rowsFrom : (n j : ℕ) (s : List ℕ) → length (rowsFrom n j s) ≡ n
 unfolding rowsFrom
@@ -33,17 +33,17 @@ getD-rowsFrom zero j s i h = absurd (omega arith)
 getD-rowsFrom (suc n) j s zero h = ap (rowIn s) (sym (add-zero j))
 getD-rowsFrom (suc n) j s (suc i) h = getD-rowsFrom n (suc j) s i (omega arith) ∙ ap (rowIn s) (omega arith)
 
-pub row-at : (s : List ℕ) (j : ℕ) → Inside j → getD (rowsIn s) j blank ≡ rowIn s j
+pub row-at : (s : List ℕ) (j : ℕ) → IsRow j → getD (rowsIn s) j blank ≡ rowIn s j
 row-at s j h = getD-rowsFrom mostProcesses 0 s j h ∙ ap (rowIn s) (zero-add j)
 
 -- one row changed: that row of the rows is set
-pub changed-rows : {j : ℕ} {g : Row → Row} {old new : List ℕ} → Inside j → Whole old → Changed j g old new → rowsIn new ≡ set (rowsIn old) j (g (rowIn old j))
+pub changed-rows : {j : ℕ} {g : Row → Row} {old new : List ℕ} → IsRow j → Whole old → Changed j g old new → rowsIn new ≡ set (rowsIn old) j (g (rowIn old j))
 changed-rows {j} {g} {old} {new} inside whole x =
     ext-getD blank (rowsIn new) (set (rowsIn old) j (g (rowIn old j)))
     (thirty-two new ∙ sym (length-set (rowsIn old) j (g (rowIn old j)) ∙ thirty-two old))
     (λ i h. at i (omega (arith, thirty-two new)) (eqb i j) refl)
   where
-    at : (i : ℕ) → Inside i → (b : Bool) → eqb i j ≡ b → getD (rowsIn new) i blank ≡ getD (set (rowsIn old) j (g (rowIn old j))) i blank
+    at : (i : ℕ) → IsRow i → (b : Bool) → eqb i j ≡ b → getD (rowsIn new) i blank ≡ getD (set (rowsIn old) j (g (rowIn old j))) i blank
     at i h true e =
         rw (eqb-true i j e, getD-set-same (rowsIn old) j (g (rowIn old j)) blank (omega (arith, thirty-two old))) (row-at new j inside ∙ x .row whole)
     at i h false e =
@@ -56,12 +56,12 @@ all-zero zero i = refl
 all-zero (suc n) zero = refl
 all-zero (suc n) (suc i) = all-zero n i
 
-zeros-are-blank : (j : ℕ) → rowIn (replicate 288 0) j ≡ blank
+zeros-are-blank : (j : ℕ) → rowIn (replicate rowsWidth 0) j ≡ blank
 unfolding rowIn
-zeros-are-blank j = same-row (numberAt (replicate 288 0) j) (λ f. 0) (λ f h. all-zero 288 (position j f))
+zeros-are-blank j = same-row (numberAt (replicate rowsWidth 0) j) (λ f. 0) (λ f. all-zero rowsWidth (position j f))
 
 -- no process has begun
-pub begins-none : (u : Shape) (xs : List ℕ) → Filled u xs 0 (rowsIn (replicate 288 0))
+pub begins-none : (u : Shape) (xs : List ℕ) → Filled u xs 0 (rowsIn (replicate rowsWidth 0))
 begins-none u xs =
     record {
       long = thirty-two _;
@@ -69,9 +69,9 @@ begins-none u xs =
       others = λ i h. beyond i (ltb i mostProcesses) refl;
     }
   where
-    beyond : (i : ℕ) (b : Bool) → ltb i mostProcesses ≡ b → getD (rowsIn (replicate 288 0)) i blank ≡ blank
+    beyond : (i : ℕ) (b : Bool) → ltb i mostProcesses ≡ b → getD (rowsIn (replicate rowsWidth 0)) i blank ≡ blank
     beyond i true e = row-at _ i (ltb-true i mostProcesses e) ∙ zeros-are-blank i
-    beyond i false e = List·getD-eq-default (rowsIn (replicate 288 0)) blank {n = i} (rw (thirty-two (replicate 288 0)) (ltb-false i mostProcesses e))
+    beyond i false e = List·getD-eq-default (rowsIn (replicate rowsWidth 0)) blank {n = i} (rw (thirty-two (replicate rowsWidth 0)) (ltb-false i mostProcesses e))
 
 -- a row that begins is a blank one, but for place, slot and value
 begins-from-blank : (κ : Routine) (j x : ℕ) → begun (begin κ j x) blank ≡ begin κ j x
@@ -80,9 +80,15 @@ begins-from-blank Routine.Plain j x = refl
 begins-from-blank Routine.Fast j x = refl
 
 -- one process more has begun
-pub begins-more : (u : Shape) (xs : List ℕ) (j : ℕ) (old new : List ℕ) → Whole old → Filled u xs j (rowsIn old) → Inside j → j < u .count
-    → Changed j (begun (begin (routine u) j (getD xs j 0))) old new → Filled u xs (j + 1) (rowsIn new)
-begins-more u xs j old new whole f inside below x =
-    rw (changed-rows inside whole x)
-    (filled-more u xs j (rowsIn old) f inside below
-    (ap (begun (begin (routine u) j (getD xs j 0))) (sym (row-at old j inside) ∙ f .others j (omega arith)) ∙ begins-from-blank (routine u) j (getD xs j 0)))
+pub begins-more : (u : Shape) (xs : List ℕ) (j : ℕ) (old new : List ℕ) → Whole old → Filled u xs j (rowsIn old) → IsRow j → j < u .count
+    → new ≡ begunIn (begin (routine u) j (getD xs j 0)) j old → Whole new × Filled u xs (j + 1) (rowsIn new)
+begins-more u xs j old new whole f is below e = (x .long ∙ whole, rw (changed-rows is whole x) (filled-more u xs j (rowsIn old) f is below from-blank))
+  where
+    b : Row
+    b = begin (routine u) j (getD xs j 0)
+
+    x : Changed j (begun b) old new
+    x = begin-written is b e
+
+    from-blank : begun b (rowIn old j) ≡ b
+    from-blank = ap (begun b) (sym (row-at old j is) ∙ f .others j (omega arith)) ∙ begins-from-blank (routine u) j (getD xs j 0)

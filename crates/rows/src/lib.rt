@@ -1,13 +1,25 @@
-// Rows in place: row j is eight numbers of `rows`, from j * 8 on, and a crash mark. Each is written by itself, so that a move touches only what it changes.
+// Rows in place: the numbers of all rows in one list. Each is written by itself, so that a move touches only what it changes.
 ghost use mathlib.Core.Path.{_≡_};
-ghost use Rattle.model.specs.Routine.{routineOf, counted};
-ghost use Rattle.model.specs.Report.{shownOf};
-ghost use Rattle.rows.specs.Rows.{placeOf, rowIn, Inside, Changed, turn, owning, begun, Uncounted};
+ghost use Rattle.model.specs.Routine.{routineOf};
+ghost use Rattle.rows.specs.Rows.{
+    placeField, slotField, ownField, wakeField, scanField, decidedField, crashedField,
+    codeOf, placeOf, rowIn, IsRow, written, countedIn, begunIn, Uncounted
+};
 use model::Kind;
 use model::Place;
 use terms::SlotNumber;
+use terms::Trace;
 
-// Where each number stands in its row.
+// Sizes and fields. specs/Rows.antt has the same numbers for the prover.
+
+// The numbers of a row, and of all rows.
+const WIDTH: usize = 9;
+
+pub const NUMBERS: usize = WIDTH * Trace::PROCESSES as usize;
+
+// The first numbers of a row stand together, those of row j from j * TOGETHER on.
+const TOGETHER: usize = 8;
+
 const PLACE: usize = 0;
 
 const SLOT: usize = 1;
@@ -24,10 +36,12 @@ const MOVES: usize = 6;
 
 const LATES: usize = 7;
 
-// The crash marks stand behind all rows.
-const MARKS: usize = 256;
+// Each further number stands behind all rows, in a column of its own.
+const CRASHED: usize = 8;
 
-// A place and its number.
+const CRASHED_COLUMN: usize = CRASHED * Trace::PROCESSES as usize;
+
+// A place and its code.
 
 fn place_of(n: u32) -> Place
     ensures { λ p. ⌜ p ≡ placeOf n ⌝ }
@@ -59,8 +73,8 @@ fn place_of(n: u32) -> Place
     Place::Decided
 }
 
-pub fn shown(place: Place) -> u32
-    ensures { λ n. ⌜ n ≡ shownOf place ⌝ }
+fn code(place: Place) -> u32
+    ensures { λ n. ⌜ n ≡ codeOf place ⌝ }
 {
     match place {
         Place::Rest => 0,
@@ -77,153 +91,150 @@ pub fn shown(place: Place) -> u32
 
 // READ
 
-pub fn place(j: usize, rows: &[u32; 288]) -> Place
-    requires { ⌜ Inside j ⌝ }
+pub fn place(j: usize, rows: &[u32; NUMBERS]) -> Place
+    requires { ⌜ IsRow j ⌝ }
     ensures { λ p. ⌜ p ≡ rowIn (now (rows .entry)) j .local .place ⌝ }
 {
-    place_of(rows[j * 8 + PLACE])
+    place_of(rows[j * TOGETHER + PLACE])
 }
 
-pub fn slot(j: usize, rows: &[u32; 288]) -> SlotNumber
-    requires { ⌜ Inside j ⌝ }
+pub fn slot(j: usize, rows: &[u32; NUMBERS]) -> SlotNumber
+    requires { ⌜ IsRow j ⌝ }
     ensures { λ c. ⌜ c ≡ rowIn (now (rows .entry)) j .local .slot ⌝ }
 {
-    SlotNumber(rows[j * 8 + SLOT])
+    SlotNumber(rows[j * TOGETHER + SLOT])
 }
 
-pub fn own(j: usize, rows: &[u32; 288]) -> u32
-    requires { ⌜ Inside j ⌝ }
+pub fn own(j: usize, rows: &[u32; NUMBERS]) -> u32
+    requires { ⌜ IsRow j ⌝ }
     ensures { λ v. ⌜ v ≡ rowIn (now (rows .entry)) j .own ⌝ }
 {
-    rows[j * 8 + OWN]
+    rows[j * TOGETHER + OWN]
 }
 
-pub fn wake(j: usize, rows: &[u32; 288]) -> u32
-    requires { ⌜ Inside j ⌝ }
+pub fn wake(j: usize, rows: &[u32; NUMBERS]) -> u32
+    requires { ⌜ IsRow j ⌝ }
     ensures { λ t. ⌜ t ≡ rowIn (now (rows .entry)) j .local .wake ⌝ }
 {
-    rows[j * 8 + WAKE]
+    rows[j * TOGETHER + WAKE]
 }
 
-pub fn scan(j: usize, rows: &[u32; 288]) -> u32
-    requires { ⌜ Inside j ⌝ }
+pub fn scan(j: usize, rows: &[u32; NUMBERS]) -> u32
+    requires { ⌜ IsRow j ⌝ }
     ensures { λ v. ⌜ v ≡ rowIn (now (rows .entry)) j .local .scan ⌝ }
 {
-    rows[j * 8 + SCAN]
+    rows[j * TOGETHER + SCAN]
 }
 
-pub fn decided(j: usize, rows: &[u32; 288]) -> u32
-    requires { ⌜ Inside j ⌝ }
+pub fn decided(j: usize, rows: &[u32; NUMBERS]) -> u32
+    requires { ⌜ IsRow j ⌝ }
     ensures { λ v. ⌜ v ≡ rowIn (now (rows .entry)) j .local .decided ⌝ }
 {
-    rows[j * 8 + DECIDED]
+    rows[j * TOGETHER + DECIDED]
 }
 
-pub fn moves(j: usize, rows: &[u32; 288]) -> u32
-    requires { ⌜ Inside j ⌝ }
+pub fn moves(j: usize, rows: &[u32; NUMBERS]) -> u32
+    requires { ⌜ IsRow j ⌝ }
     ensures { λ n. ⌜ n ≡ rowIn (now (rows .entry)) j .moves ⌝ }
 {
-    rows[j * 8 + MOVES]
+    rows[j * TOGETHER + MOVES]
 }
 
-pub fn lates(j: usize, rows: &[u32; 288]) -> u32
-    requires { ⌜ Inside j ⌝ }
+pub fn lates(j: usize, rows: &[u32; NUMBERS]) -> u32
+    requires { ⌜ IsRow j ⌝ }
     ensures { λ n. ⌜ n ≡ rowIn (now (rows .entry)) j .lates ⌝ }
 {
-    rows[j * 8 + LATES]
+    rows[j * TOGETHER + LATES]
 }
 
-pub fn is_crashed(j: usize, rows: &[u32; 288]) -> bool
-    requires { ⌜ Inside j ⌝ }
+pub fn is_crashed(j: usize, rows: &[u32; NUMBERS]) -> bool
+    requires { ⌜ IsRow j ⌝ }
     ensures { λ b. ⌜ b ≡ rowIn (now (rows .entry)) j .crashed ⌝ }
 {
-    rows[MARKS + j] == 1
+    rows[CRASHED_COLUMN + j] == 1
 }
 
-// WRITE: at another place; at another slot; with a wait that ends at `wake`; with a decision; with the next value of a scan; with another value to write.
+// WRITE: at another place; at another slot; with a wait that ends at `wake`; with a decision; with the next value of a scan.
 
-pub fn to(place: Place, j: usize, rows: &mut [u32; 288])
-    requires { ⌜ Inside j ⌝ }
-    ensures { λ _. ⌜ Changed j (turn (Rattle.model.specs.Routine.to place)) (now (rows .entry)) (now (rows .exit)) ⌝ }
+pub fn to(place: Place, j: usize, rows: &mut [u32; NUMBERS])
+    requires { ⌜ IsRow j ⌝ }
+    ensures { λ _. ⌜ now (rows .exit) ≡ written (now (rows .entry)) j placeField (codeOf place) ⌝ }
 {
-    rows[j * 8 + PLACE] = shown(place);
+    rows[j * TOGETHER + PLACE] = code(place);
 }
 
-pub fn on(c: u32, j: usize, rows: &mut [u32; 288])
-    requires { ⌜ Inside j ⌝ }
-    ensures { λ _. ⌜ Changed j (turn (Rattle.model.specs.Routine.on c)) (now (rows .entry)) (now (rows .exit)) ⌝ }
+pub fn on(c: SlotNumber, j: usize, rows: &mut [u32; NUMBERS])
+    requires { ⌜ IsRow j ⌝ }
+    ensures { λ _. ⌜ now (rows .exit) ≡ written (now (rows .entry)) j slotField (c .0) ⌝ }
 {
-    rows[j * 8 + SLOT] = c;
+    rows[j * TOGETHER + SLOT] = c.0;
 }
 
-pub fn until(wake: u32, j: usize, rows: &mut [u32; 288])
-    requires { ⌜ Inside j ⌝ }
-    ensures { λ _. ⌜ Changed j (turn (Rattle.model.specs.Routine.until wake)) (now (rows .entry)) (now (rows .exit)) ⌝ }
+pub fn until(wake: u32, j: usize, rows: &mut [u32; NUMBERS])
+    requires { ⌜ IsRow j ⌝ }
+    ensures { λ _. ⌜ now (rows .exit) ≡ written (now (rows .entry)) j wakeField wake ⌝ }
 {
-    rows[j * 8 + WAKE] = wake;
+    rows[j * TOGETHER + WAKE] = wake;
 }
 
-pub fn decides(v: u32, j: usize, rows: &mut [u32; 288])
-    requires { ⌜ Inside j ⌝ }
-    ensures { λ _. ⌜ Changed j (turn (Rattle.model.specs.Routine.decides v)) (now (rows .entry)) (now (rows .exit)) ⌝ }
+pub fn decides(v: u32, j: usize, rows: &mut [u32; NUMBERS])
+    requires { ⌜ IsRow j ⌝ }
+    ensures { λ _. ⌜ now (rows .exit) ≡ written (now (rows .entry)) j decidedField v ⌝ }
 {
-    rows[j * 8 + DECIDED] = v;
+    rows[j * TOGETHER + DECIDED] = v;
 }
 
-pub fn scans(v: u32, j: usize, rows: &mut [u32; 288])
-    requires { ⌜ Inside j ⌝ }
-    ensures { λ _. ⌜ Changed j (turn (Rattle.model.specs.Routine.scans v)) (now (rows .entry)) (now (rows .exit)) ⌝ }
+pub fn scans(v: u32, j: usize, rows: &mut [u32; NUMBERS])
+    requires { ⌜ IsRow j ⌝ }
+    ensures { λ _. ⌜ now (rows .exit) ≡ written (now (rows .entry)) j scanField v ⌝ }
 {
-    rows[j * 8 + SCAN] = v;
-}
-
-fn owns(v: u32, j: usize, rows: &mut [u32; 288])
-    requires { ⌜ Inside j ⌝ }
-    ensures { λ _. ⌜ Changed j (owning v) (now (rows .entry)) (now (rows .exit)) ⌝ }
-{
-    rows[j * 8 + OWN] = v;
+    rows[j * TOGETHER + SCAN] = v;
 }
 
 // A move, and a late write where the write was late, are counted.
-pub fn count(late: bool, j: usize, rows: &mut [u32; 288])
-    requires { ⌜ Inside j ⌝ }
+pub fn count(late: bool, j: usize, rows: &mut [u32; NUMBERS])
+    requires { ⌜ IsRow j ⌝ }
     requires { ⌜ Uncounted (rowIn (now rows) j) ⌝ }
-    ensures { λ _. ⌜ Changed j (λ r. counted late (r .local) r) (now (rows .entry)) (now (rows .exit)) ⌝ }
+    ensures { λ _. ⌜ now (rows .exit) ≡ countedIn late j (now (rows .entry)) ⌝ }
 {
-    rows[j * 8 + MOVES] = rows[j * 8 + MOVES] + 1;
+    rows[j * TOGETHER + MOVES] = rows[j * TOGETHER + MOVES] + 1;
     if late {
-        rows[j * 8 + LATES] = rows[j * 8 + LATES] + 1;
+        rows[j * TOGETHER + LATES] = rows[j * TOGETHER + LATES] + 1;
     }
 }
 
-pub fn crash(j: usize, rows: &mut [u32; 288])
-    requires { ⌜ Inside j ⌝ }
-    ensures { λ _. ⌜ Changed j Rattle.model.specs.Routine.crash (now (rows .entry)) (now (rows .exit)) ⌝ }
+pub fn crash(j: usize, rows: &mut [u32; NUMBERS])
+    requires { ⌜ IsRow j ⌝ }
+    ensures { λ _. ⌜ now (rows .exit) ≡ written (now (rows .entry)) j crashedField 1 ⌝ }
 {
-    rows[MARKS + j] = 1;
+    rows[CRASHED_COLUMN + j] = 1;
 }
 
-// The process with start byte x begins: its place, its slot, the value that it writes.
-pub fn begin(kind: Kind, x: u8, j: usize, rows: &mut [u32; 288])
-    requires { ⌜ Inside j ⌝ }
-    ensures { λ _. ⌜ Changed j (begun (Rattle.model.specs.Routine.begin (routineOf kind) j x)) (now (rows .entry)) (now (rows .exit)) ⌝ }
+// A process that has not moved: its place, its slot, the value that it writes.
+fn unmoved(place: Place, c: u32, own: u32, j: usize, rows: &mut [u32; NUMBERS])
+    requires { ⌜ IsRow j ⌝ }
+    ensures { λ _. ⌜ now (rows .exit) ≡ begunIn (Rattle.model.specs.Routine.unmoved place c own) j (now (rows .entry)) ⌝ }
+{
+    rows[j * TOGETHER + PLACE] = code(place);
+    rows[j * TOGETHER + SLOT] = c;
+    rows[j * TOGETHER + OWN] = own;
+}
+
+// The process with start byte x begins.
+pub fn begin(kind: Kind, x: u8, j: usize, rows: &mut [u32; NUMBERS])
+    requires { ⌜ IsRow j ⌝ }
+    ensures { λ _. ⌜ now (rows .exit) ≡ begunIn (Rattle.model.specs.Routine.begin (routineOf kind) j x) j (now (rows .entry)) ⌝ }
 {
     let start = x as u32;
     match kind {
         Kind::Lock => {
-            to(Place::Rest, j, rows);
-            on(start, j, rows);
-            owns(j as u32 + 1, j, rows);
+            unmoved(Place::Rest, start, j as u32 + 1, j, rows);
         }
         Kind::Plain => {
-            to(Place::Look, j, rows);
-            on(0, j, rows);
-            owns(start, j, rows);
+            unmoved(Place::Look, 0, start, j, rows);
         }
         Kind::Fast => {
-            to(Place::Flag, j, rows);
-            on(0, j, rows);
-            owns(start, j, rows);
+            unmoved(Place::Flag, 0, start, j, rows);
         }
     }
 }
