@@ -7,6 +7,7 @@ use mathlib.Core.Bool.{Bool, true, false, cond, _&&_}
 use mathlib.Core.List.{List}
 use native.Mathlib.Omega.{arith}
 use borrow.Author.Tests.{eq-eqb, ne-eqb}
+use Rattle.terms.specs.declared.SlotNumber.{SlotNumber}
 use Rattle.terms.specs.Numbers.{processOf, indexOf}
 use Rattle.steps.specs.declared.Step.{Step}
 use Rattle.setups.specs.Setup.{setupFields}
@@ -25,7 +26,7 @@ use Rattle.model.proofs.SetupSays.{run-said, setup-sound, setup-starts}
 
 -- A COLUMN of the rows that begins at 0, keeps through a crash, and grows by one at each move that passes the test
 pub record Column (u : Shape) (f : Row → ℕ) (test : Progress → Step → Bool) : Type 0 where
-  pub begins : (p : Place) (c v : ℕ) → f (unmoved p c v) ≡ 0
+  pub begins : (p : Place) (c : SlotNumber) (v : ℕ) → f (unmoved p c v) ≡ 0
   pub stops : (r : Row) → f (crash r) ≡ f r
   pub goes : (s : State) (k : Step) → f (rowGone u s k) ≡ f (rowOf s (k .process)) + cond (test (going s) k) 1 0
 
@@ -59,7 +60,7 @@ one-fewer false b = omega arith
 
 module _ (u : Shape) (f : Row → ℕ) (test : Progress → Step → Bool) (c : Column u f test) where
   begins-at : (κ : Routine) (j x : ℕ) → f (begin κ j x) ≡ 0
-  begins-at Routine.Lock j x = c .begins _ _ _
+  begins-at (Routine.Lock how) j x = c .begins _ _ _
   begins-at Routine.Plain j x = c .begins _ _ _
   begins-at Routine.Fast j x = c .begins _ _ _
 

@@ -8,8 +8,9 @@ use native.Mathlib.Omega.{arith}
 use lib.Dec.{T}
 use lib.ListN.{getD, replicate}
 use Rattle.terms.specs.declared.ProcessNumber.{ProcessNumber}
+use Rattle.terms.specs.declared.SlotNumber.{SlotNumber}
 use Rattle.terms.specs.Limits.{topTick, unlimited}
-use Rattle.terms.specs.Numbers.{indexOf}
+use Rattle.terms.specs.Numbers.{indexOf, slotOf}
 use Rattle.bank.specs.Registers.{freshBank}
 use Rattle.steps.specs.declared.Step.{Step}
 use Rattle.steps.specs.Step.{stepFields}
@@ -19,7 +20,7 @@ use Rattle.model.specs.declared.Row.{Row}
 use Rattle.model.specs.declared.Reply.{Reply}
 use Rattle.model.specs.declared.State.{State}
 use Rattle.model.specs.Time.{wakeAt}
-use Rattle.model.specs.Routine.{Routine, routine, askAt, told, counted, crash, slots, nextOf, unmoved, begin, isDecided}
+use Rattle.model.specs.Routine.{Routine, routine, askAt, told, counted, crash, slotsOf, nextOf, unmoved, begin, isDecided}
 use Rattle.model.specs.Memory.{reply}
 use Rattle.model.specs.Bounds.{Sound, Starts}
 use Rattle.model.specs.Run.{rowAt, rowOf, fresh, move, stop, after, reach, Progress.going}
@@ -36,7 +37,7 @@ use Rattle.model.proofs.View.{view, Shaped, Mobile, sees, sees-stop}
 
 -- the invariant of each routine
 abbrev pub Inv : Pace → Routine → Shape → World → Type 0
-Inv c Routine.Lock u w = LockInv (clock c (u .delta)) w
+Inv c (Routine.Lock how) u w = LockInv (clock c (u .delta)) w
 Inv c Routine.Plain u w = DecideInv (clock c (u .delta)) w
 Inv c Routine.Fast u w = FastDecideInv (clock c (u .delta)) (u .size) w
 
@@ -57,8 +58,8 @@ afterMove c κ u w m t l p b x v g d =
 inv-moves : (c : Pace) (κ : Routine) (u : Shape) (w : World) (m t : ℕ) (l : Bool) {p : Place} {b : Bool} {x : ℕ} {v : ℕ → ℕ} {g : Commons} {d : ℕ}
     → m < u .count → Free c (w .seat m .row) t → w .floor ≤ t → t < unlimited → w .seat m .row .local .place ≡ p → RowOk κ u m (w .seat m .row)
     → Moves (clock c (u .delta)) w m t p b x v g d → Inv c κ u w → Inv c κ u (afterMove c κ u w m t l p b x v g d)
-inv-moves c Routine.Lock u w m t l h free later short e ok rule inv =
-    lock-moves (clock c (u .delta)) w m t (slots u (w .seat m .row .local)) l later short (free .awake) (ok .own h) e (rw e at (ok .place h)) rule inv
+inv-moves c (Routine.Lock how) u w m t l h free later short e ok rule inv =
+    lock-moves (clock c (u .delta)) w m t (slotsOf how u (w .seat m .row .local)) l later short (free .awake) (ok .own h) e (rw e at (ok .place h)) rule inv
 inv-moves c Routine.Plain u w m t l h free later short e ok rule inv =
     plain-moves (clock c (u .delta)) w m t l later (free .awake) (ok .slot) (λ z. omega (arith, ok .own h)) e (rw e at (ok .place h)) rule inv
 inv-moves c Routine.Fast u w m t l h free later short e ok rule inv =
@@ -66,7 +67,7 @@ inv-moves c Routine.Fast u w m t l h free later short e ok rule inv =
 
 inv-crashes : (c : Pace) (κ : Routine) (u : Shape) (w : World) (m t : ℕ) → w .floor ≤ t → Inv c κ u w
     → Inv c κ u (crashed w m (crash (w .seat m .row)) (c .next t))
-inv-crashes c Routine.Lock u w m t later inv = lock-crashes (clock c (u .delta)) w m t later inv
+inv-crashes c (Routine.Lock how) u w m t later inv = lock-crashes (clock c (u .delta)) w m t later inv
 inv-crashes c Routine.Plain u w m t later inv = decide-crashes (clock c (u .delta)) w m t later inv
 inv-crashes c Routine.Fast u w m t later inv = fast-crashes (clock c (u .delta)) (u .size) w m t later inv
 
@@ -162,12 +163,12 @@ pub record Bare (κ : Routine) (w : World) : Type 0 where
   pub rows : (j : ℕ) → Unmoved κ (w .seat j .row)
 
 inv-start : (c : Pace) (κ : Routine) (u : Shape) (w : World) → Bare κ w → ((j : ℕ) → RowOk κ u j (w .seat j .row)) → Inv c κ u w
-inv-start c Routine.Lock u w bare ok =
+inv-start c (Routine.Lock how) u w bare ok =
     record {
       holds = λ i c e. absurd (omega (arith, bare .value c));
-      inside = λ i a. absurd (differ (begins Routine.Lock) inside tt (w .seat i .row .local .place) (bare .rows i .place) a);
+      inside = λ i a. absurd (differ (begins (Routine.Lock how)) inside tt (w .seat i .row .local .place) (bare .rows i .place) a);
       waited = λ i a e. absurd (omega (arith, bare .value (slotAt (w .seat i))));
-      bound = λ j a. absurd (differ (begins Routine.Lock) putting tt (w .seat j .row .local .place) (bare .rows j .place) a);
+      bound = λ j a. absurd (differ (begins (Routine.Lock how)) putting tt (w .seat j .row .local .place) (bare .rows j .place) a);
     }
 inv-start c Routine.Plain u w bare ok =
     record {
@@ -199,13 +200,13 @@ inv-start c Routine.Fast u w bare ok =
           };
     }
 
-unmoved-as : (κ : Routine) (p : Place) (c v : ℕ) → T (begins κ p) → Unmoved κ (unmoved p c v)
+unmoved-as : (κ : Routine) (p : Place) (c : SlotNumber) (v : ℕ) → T (begins κ p) → Unmoved κ (unmoved p c v)
 unmoved-as κ p c v h = record { place = h; wake = refl; moves = refl; lates = refl }
 
 unmoved-begin : (κ : Routine) (j x : ℕ) → Unmoved κ (begin κ j x)
-unmoved-begin Routine.Lock j x = unmoved-as Routine.Lock Place.Rest x (j + 1) tt
-unmoved-begin Routine.Plain j x = unmoved-as Routine.Plain Place.Look 0 x tt
-unmoved-begin Routine.Fast j x = unmoved-as Routine.Fast Place.Flag 0 x tt
+unmoved-begin (Routine.Lock how) j x = unmoved-as (Routine.Lock how) Place.Rest (slotOf x) (j + 1) tt
+unmoved-begin Routine.Plain j x = unmoved-as Routine.Plain Place.Look (slotOf 0) x tt
+unmoved-begin Routine.Fast j x = unmoved-as Routine.Fast Place.Flag (slotOf 0) x tt
 
 replicate-all : {A : Type 0} (n j : ℕ) (a : A) → getD (replicate n a) j a ≡ a
 replicate-all zero j a = refl
@@ -219,7 +220,7 @@ bare-fresh u so xs st f =
       value = λ c. replicate-all 8 c 0;
       flag = λ v. replicate-all 9 v false;
       rows =
-          fresh-rows u so xs st (λ j r. Unmoved (routine u) r) (λ j h. unmoved-as (routine u) Place.Rest 0 0 tt)
+          fresh-rows u so xs st (λ j r. Unmoved (routine u) r) (λ j h. unmoved-as (routine u) Place.Rest (slotOf 0) 0 tt)
           (λ j h ok. unmoved-begin (routine u) j (getD xs j 0));
     }
 

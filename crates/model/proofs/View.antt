@@ -87,7 +87,7 @@ others s i t sh (Ask.Peek v) o j n = refl
 
 -- the process keeps its slot when it finds it empty and when it wins it
 keeps-slot : (κ : Routine) (u : Shape) (n v w : ℕ) (x : Local) → (nextOf κ u n Place.Look true v w x .slot ≡ x .slot) × (nextOf κ u n Place.Check true v w x .slot ≡ x .slot)
-keeps-slot Routine.Lock u n v w x = (refl, refl)
+keeps-slot (Routine.Lock how) u n v w x = (refl, refl)
 keeps-slot Routine.Plain u n v w x = (refl, refl)
 keeps-slot Routine.Fast u n v w x = (refl, refl)
 

@@ -61,10 +61,10 @@ at i k b s e = record { bytes = all-bytes (trace i) b; setup = s; led = e }
 
 pub record Witnessed : Type 0 where
   -- exclusion, with two inside: P9; and with one that crashed inside
-  pub two-inside : At (trace 8) 11 (led 8 11) × Occupies (led 8 11) 0 0 × Occupies (led 8 11) 1 1
-  pub crashed-inside : At (trace 16) 6 (led 16 6) × Inside (led 16 6) 0 0 × (rowAt (led 16 6) 0 .crashed ≡ true)
+  pub two-inside : At (trace 8) 11 (led 8 11) × Occupies (led 8 11) 0 (slotOf 0) × Occupies (led 8 11) 1 (slotOf 1)
+  pub crashed-inside : At (trace 16) 6 (led 16 6) × Inside (led 16 6) 0 (slotOf 0) × (rowAt (led 16 6) 0 .crashed ≡ true)
   -- leaving: the next record is a move out of the section, and the slot is empty then
-  pub leaves : At (trace 17) 5 (led 17 5) × Inside (led 17 5) 0 0 × At (trace 17) 6 (led 17 6) × (valueAt (led 17 6 .bank) (slotOf 0) ≡ 0)
+  pub leaves : At (trace 17) 5 (led 17 5) × Inside (led 17 5) 0 (slotOf 0) × At (trace 17) 6 (led 17 6) × (valueAt (led 17 6 .bank) (slotOf 0) ≡ 0)
   -- agreement and validity: P5, where process 1 decides the proposal of process 2, and the other later; P10, without a wait
   pub first-decides : At (trace 4) 7 (led 4 7) × Decides (led 4 7) 0 2 × Proposed (trace 4) (led 4 7) 2
   pub both-decide : At (trace 4) 10 (led 4 10) × Decides (led 4 10) 0 2 × Decides (led 4 10) 1 2

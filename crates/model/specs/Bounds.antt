@@ -24,7 +24,7 @@ pub record Sound (u : Shape) : Type 0 where
 
 -- and of the start bytes, which stand in 32 places
 abbrev pub startOk : Routine → ℕ → ℕ → Type 0
-startOk Routine.Lock size x = x < size
+startOk (Routine.Lock how) size x = x < size
 startOk Routine.Plain size x = (1 ≤ x) × (x ≤ size)
 startOk Routine.Fast size x = (1 ≤ x) × (x ≤ size)
 

@@ -6,7 +6,7 @@ use lib.Dec.{eqb, ltb}
 use lib.ListN.{length, drop, getD, set, replicate}
 use Rattle.terms.specs.declared.ProcessNumber.{ProcessNumber}
 use Rattle.terms.specs.Limits.{mostProcesses, mostSteps}
-use Rattle.terms.specs.Numbers.{indexOf}
+use Rattle.terms.specs.Numbers.{indexOf, slotOf}
 use Rattle.terms.specs.Refusal.{refuse, _then_, ifAccepted}
 use Rattle.bank.specs.Registers.{freshBank}
 use Rattle.setups.specs.declared.Setup.{Setup}
@@ -30,7 +30,7 @@ use Rattle.model.specs.Memory.{reply, bankAfter, sharedAfter}
 
 -- what stands past the last process
 abbrev pub blank : Row
-blank = unmoved Place.Rest 0 0
+blank = unmoved Place.Rest (slotOf 0) 0
 
 -- the row at an index, and that of a process
 abbrev pub rowAt : State → ℕ → Row

@@ -102,13 +102,13 @@ pub struct Outcome {
 
 impl Row {
     // A process that has not moved, at its place with slot c, that writes `own`.
-    fn unmoved(place: Place, c: u32, own: u32) -> Self
+    fn unmoved(place: Place, c: SlotNumber, own: u32) -> Self
         ensures { λ r. ⌜ r ≡ Rattle.model.specs.Routine.unmoved place c own ⌝ }
     {
         Row {
             local: Local {
                 place,
-                slot: SlotNumber(c),
+                slot: c,
                 decided: 0,
                 wake: 0,
                 scan: 0,
@@ -127,9 +127,9 @@ impl Row {
     {
         let start = x as u32;
         match kind {
-            Kind::Lock => Row::unmoved(Place::Rest, start, j + 1),
-            Kind::Plain => Row::unmoved(Place::Look, 0, start),
-            Kind::Fast => Row::unmoved(Place::Flag, 0, start),
+            Kind::Lock => Row::unmoved(Place::Rest, SlotNumber(start), j + 1),
+            Kind::Plain => Row::unmoved(Place::Look, SlotNumber(0), start),
+            Kind::Fast => Row::unmoved(Place::Flag, SlotNumber(0), start),
         }
     }
 }
@@ -140,7 +140,7 @@ impl State {
         ensures { λ rows. ⌜ rows ≡ startRows shape 0 starts ⌝ }
     {
         let kind = shape.kind;
-        let mut rows = [Row::unmoved(Place::Rest, 0, 0); 32];
+        let mut rows = [Row::unmoved(Place::Rest, SlotNumber(0), 0); 32];
         let mut j: usize = 0;
         while j < 32 {
             if shape.count <= j as u32 {
