@@ -164,7 +164,7 @@ module _ {u : Shape} {s : State} (point : Point u s) where
     own-stays =
         each-kept u so xs (point .starts) (point .rest) (λ k s. (i : ℕ) → rowAt s i .own ≡ rowAt (fresh u xs) i .own) (λ i. refl)
         (λ k s e kt ad old.
-        turn u s (stepAt (point .rest) k) (omega (arith, kt .rows, ad .inside, so .few)) (λ i r. r .own ≡ rowAt (fresh u xs) i .own) (λ i n. old i) (λ b. old _)
+        turn u s (stepAt (point .rest) k) (omega (arith, kt .rows, ad .inside)) (λ i r. r .own ≡ rowAt (fresh u xs) i .own) (λ i n. old i) (λ b. old _)
         (λ b. old _))
         (point .k) (point .led) .1
 

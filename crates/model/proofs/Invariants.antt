@@ -6,12 +6,11 @@ use mathlib.Core.Bool.{Bool, false}
 use mathlib.Core.List.{List}
 use native.Mathlib.Omega.{arith}
 use lib.Dec.{T}
-use lib.ListN.{getD, replicate}
+use lib.ListN.{length, getD, replicate}
 use Rattle.terms.specs.declared.ProcessNumber.{ProcessNumber}
 use Rattle.terms.specs.declared.SlotNumber.{SlotNumber}
-use Rattle.terms.specs.Limits.{topTick, unlimited}
+use Rattle.terms.specs.Limits.{mostSlots, topTick, unlimited}
 use Rattle.terms.specs.Numbers.{indexOf, slotOf}
-use Rattle.bank.specs.Registers.{freshBank}
 use Rattle.steps.specs.declared.Step.{Step}
 use Rattle.steps.specs.Step.{stepFields}
 use Rattle.model.specs.declared.Place.{Place}
@@ -23,6 +22,7 @@ use Rattle.model.specs.Time.{wakeAt}
 use Rattle.model.specs.Routine.{Routine, routine, askAt, told, counted, crash, slotsOf, nextOf, unmoved, begin, isDecided}
 use Rattle.model.specs.Memory.{reply}
 use Rattle.model.specs.Bounds.{Sound, Starts}
+use Rattle.model.specs.Sizes.{flagCount}
 use Rattle.model.specs.Run.{rowAt, rowOf, fresh, move, stop, after, reach, Progress.going}
 use Rattle.model.proofs.Places.{differ, begins, putting, scanning, raised, settled, checking, past, inside}
 use Rattle.model.proofs.World.{Commons, World, Pace, ordinary, clock, Moves, moved, crashed, slotAt, ownOf}
@@ -84,10 +84,9 @@ nothing c u = record { on-move = λ w m t l h e q ok inv rule z. tt; on-crash = 
 
 -- ONE RECORD, of the bench
 
-shaped : (u : Shape) (s : State) → Sound u → Kept u s → Shaped s
+pub shaped : (u : Shape) (s : State) → Sound u → Kept u s → Shaped s
 shaped u s so kt =
     record {
-      rows = kt .rows;
       values = kt .values;
       deadlines = kt .deadlines;
       flags = kt .flags;
@@ -117,8 +116,8 @@ module _ (c : Pace) (u : Shape) (so : Sound u) (P : World → Type 0) (al : Alon
     pub also : P (view f s)
 
   module _ (f : ℕ) (s : State) (good : Good f s) (i : ProcessNumber) (t : ℕ) (h : indexOf i < u .count) (later : f ≤ t) where
-    few : indexOf i < 32
-    few = omega (arith, so .few)
+    few : indexOf i < length (s .rows)
+    few = omega (arith, good .kept .rows)
 
     pub good-move : t ≤ topTick → Free c (rowOf s i) t → Good (c .next t) (move u s i t)
     good-move top free =
@@ -213,12 +212,12 @@ replicate-all zero j a = refl
 replicate-all (suc n) zero a = refl
 replicate-all (suc n) (suc j) a = replicate-all n j a
 
-bare-fresh : (u : Shape) → Sound u → (xs : List ℕ) → Starts u xs → (f : ℕ) → Bare (routine u) (view f (fresh u xs))
-unfolding fresh freshBank
+pub bare-fresh : (u : Shape) → Sound u → (xs : List ℕ) → Starts u xs → (f : ℕ) → Bare (routine u) (view f (fresh u xs))
+unfolding fresh
 bare-fresh u so xs st f =
     record {
-      value = λ c. replicate-all 8 c 0;
-      flag = λ v. replicate-all 9 v false;
+      value = λ c. replicate-all mostSlots c 0;
+      flag = λ v. replicate-all flagCount v false;
       rows =
           fresh-rows u so xs st (λ j r. Unmoved (routine u) r) (λ j h. unmoved-as (routine u) Place.Rest (slotOf 0) 0 tt)
           (λ j h ok. unmoved-begin (routine u) j (getD xs j 0));

@@ -86,7 +86,7 @@ accepted-goes trace old e = by (runOf trace (length old)) refl e
 
 -- THE NUMBERS OF A ROW
 
-lines-at : (κ : Routine) (rows : List Row) (n j m : ℕ) → j < n → m < lineWidth → getD (lines κ rows n) (lineWidth * j + m) 0 ≡ getD (line κ (getD rows j blank)) m 0
+pub lines-at : (κ : Routine) (rows : List Row) (n j m : ℕ) → j < n → m < lineWidth → getD (lines κ rows n) (lineWidth * j + m) 0 ≡ getD (line κ (getD rows j blank)) m 0
 unfolding lines
 lines-at κ rows zero j m h l = absurd (omega arith)
 lines-at κ rows (suc n) j m h l = by (decLt j n) (λ g. lines-at κ rows n j m g l)

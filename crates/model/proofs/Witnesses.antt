@@ -10,7 +10,7 @@ use lib.ListN.{getD, replicate}
 use borrow.Author.Tests.{ltb-true}
 use Rattle.terms.specs.Limits.{mostProcesses}
 use Rattle.terms.specs.Numbers.{slotOf}
-use Rattle.bank.specs.Registers.{freshBank, afterRead, afterWrite, valueAt}
+use Rattle.bank.specs.Registers.{afterRead, afterWrite, valueAt}
 use Rattle.records.specs.Record.{byte}
 use Rattle.setups.specs.Setup.{badKind, badSize, badStart, setupRefusal}
 use Rattle.steps.specs.Step.{stepRefusal}
@@ -81,7 +81,7 @@ pub record Witnessed : Type 0 where
   pub report-bound : (shown (trace 15) (old 8) 0 2 ≡ 7) × (shown (trace 15) (old 8) 0 3 ≡ 1) × (shown (trace 15) (old 8) 0 0 ≡ 8)
 
 pub witnesses : Witnessed
-unfolding freshBank afterRead afterWrite badKind badSize badStart setupRefusal stepRefusal startRows fresh moveAt stop after judge recordRefusal advance reach records runRefusal runOf line lines reportOf outcomeOf ranOf howMany
+unfolding afterRead afterWrite badKind badSize badStart setupRefusal stepRefusal startRows fresh moveAt stop after judge recordRefusal advance reach records runRefusal runOf line lines reportOf outcomeOf ranOf howMany
 witnesses =
     record {
       two-inside = (at 8 11 tt refl refl, ((refl, refl), refl), ((refl, refl), refl));

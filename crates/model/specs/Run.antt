@@ -5,10 +5,11 @@ use mathlib.Core.List.{List, [], _∷_}
 use lib.Dec.{eqb, ltb}
 use lib.ListN.{length, drop, getD, set, replicate}
 use Rattle.terms.specs.declared.ProcessNumber.{ProcessNumber}
-use Rattle.terms.specs.Limits.{mostProcesses, mostSteps}
+use Rattle.terms.specs.Limits.{mostProcesses, mostSlots, mostSteps, unlimited}
 use Rattle.terms.specs.Numbers.{indexOf, slotOf}
 use Rattle.terms.specs.Refusal.{refuse, _then_, ifAccepted}
-use Rattle.bank.specs.Registers.{freshBank}
+use Rattle.bank.specs.declared.Bank.{Bank}
+use Rattle.bank.specs.Registers.{bankOf}
 use Rattle.setups.specs.declared.Setup.{Setup}
 use Rattle.steps.specs.declared.Step.{Step}
 use Rattle.records.specs.Record.{byte}
@@ -47,9 +48,19 @@ unfoldable pub startRows : Shape → ℕ → List ℕ → List Row
 startRows u j [] = []
 startRows u j (x ∷ xs) = startRow u j x ∷ startRows u (suc j) xs
 
+-- a fresh bank for n processes
+abbrev pub freshBankOf : ℕ → Bank
+freshBankOf n = bankOf (replicate mostSlots 0) (replicate (n * mostSlots) unlimited) 0
+
+-- the state at the start, with as many rows as there are start bytes
 unfoldable pub fresh : Shape → List ℕ → State
 fresh u starts =
-    record { rows = startRows u 0 starts; bank = freshBank; shared = record { flags = replicate flagCount false }; last = 0 }
+    record {
+      rows = startRows u 0 starts;
+      bank = freshBankOf (length starts);
+      shared = record { flags = replicate flagCount false };
+      last = 0;
+    }
 
 -- A MOVE of process i at tick t, at place p; and a crash
 
