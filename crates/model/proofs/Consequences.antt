@@ -22,8 +22,7 @@ use Rattle.model.specs.declared.State.{State}
 use Rattle.model.specs.Places.{codeOf}
 use Rattle.model.specs.Routine.{Routine, routine, begin}
 use Rattle.model.specs.Bounds.{Sound, Starts}
-use Rattle.model.specs.Run.{rowAt, rowOf, fresh, moveAt, reach, Progress.going}
-use Rattle.model.specs.Counts.{stepAt}
+use Rattle.model.specs.Run.{rowAt, rowOf, fresh, moveAt, stepAt, reach, Progress.going}
 use Rattle.model.specs.Claims.{Within}
 use Rattle.model.specs.Report.{shownPlace, figureOf}
 use Rattle.model.proofs.Places.{imply, differ, inKind, timedDecision, settled, past, inside}

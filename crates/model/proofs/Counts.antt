@@ -17,8 +17,8 @@ use Rattle.model.specs.declared.Row.{Row}
 use Rattle.model.specs.declared.State.{State}
 use Rattle.model.specs.Routine.{Routine, routine, crash, unmoved, begin}
 use Rattle.model.specs.Bounds.{Bytes, Sound, Starts}
-use Rattle.model.specs.Run.{rowAt, rowOf, fresh, isMove, after, reach, Progress, Progress.going, shapeOf, restOf, startOf, records, runOf}
-use Rattle.model.specs.Counts.{howMany, stepAt, moveOf, lateIn, movesOf, latesOf}
+use Rattle.model.specs.Run.{rowAt, rowOf, fresh, isMove, after, stepAt, reach, Progress, Progress.going, shapeOf, restOf, startOf, records, runOf}
+use Rattle.model.specs.Counts.{howMany, moveOf, lateIn, movesOf, latesOf}
 use Rattle.model.proofs.RunLaws.{run-going}
 use Rattle.model.proofs.Turns.{rowGone, turn}
 use Rattle.model.proofs.Keeping.{Kept, Admitted, fresh-rows, each-kept}
@@ -136,6 +136,6 @@ reach-counts u so xs st rest k e j =
 pub run-counts : (trace : List ℕ) (room : ℕ) {s : State} → Bytes trace → runOf trace room ≡ going s
     → (j : ℕ) → Counted (shapeOf (setupFields trace)) (startOf trace) (restOf trace) (records (restOf trace)) j (rowAt s j)
 run-counts trace room bytes e =
-    let both = run-going trace room e in
+    let both = run-going _ _ _ _ e in
     let setup = run-said trace room (both .0) .setup in
     reach-counts _ (setup-sound trace setup bytes) _ (setup-starts trace setup) (restOf trace) _ (both .1)

@@ -23,7 +23,7 @@ use Rattle.model.specs.Routine.{Routine, routine, askAt, told, counted, 
 use Rattle.model.specs.Memory.{reply}
 use Rattle.model.specs.Bounds.{Sound, Starts}
 use Rattle.model.specs.Sizes.{flagCount}
-use Rattle.model.specs.Run.{rowAt, rowOf, fresh, move, stop, after, reach, Progress.going}
+use Rattle.model.specs.Run.{rowAt, rowOf, fresh, move, stop, after, stepTape, reach, Progress.going}
 use Rattle.model.proofs.Places.{differ, begins, putting, scanning, raised, settled, checking, past, inside}
 use Rattle.model.proofs.World.{Commons, World, Pace, ordinary, clock, Moves, moved, crashed, slotAt, ownOf}
 use Rattle.model.proofs.LockSafe.{LockInv, lock-moves, lock-crashes}
@@ -244,7 +244,7 @@ module _ (u : Shape) (so : Sound u) (P : World → Type 0) (al : Along ordinary 
 
     pub reach-good : (rest : List ℕ) (k : ℕ) {s : State} → reach u (fresh u xs) rest k ≡ going s → Good ordinary u so P al (s .last) s
     reach-good rest =
-        each-record u (fresh u xs) rest (λ k s. Good ordinary u so P al (s .last) s) good-fresh
+        each-record (stepTape u rest) (fresh u xs) (λ k s. Good ordinary u so P al (s .last) s) good-fresh
         (λ k s e good.
         let bytes : List ℕ = recordAt rest k in
         subst (λ (f : ℕ). Good ordinary u so P al f (after u s (stepFields bytes))) (sym (last-after u s (stepFields bytes)))

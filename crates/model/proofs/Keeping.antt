@@ -26,9 +26,8 @@ use Rattle.model.specs.Routine.{routine, askAt, begin}
 use Rattle.model.specs.Memory.{reply, bankAfter, sharedAfter}
 use Rattle.model.specs.Bounds.{Sound, startOk, Starts}
 use Rattle.model.specs.Sizes.{flagCount}
-use Rattle.model.specs.Run.{rowAt, rowOf, blank, startRow, startRows, fresh, move, moveAt, stop, after, reach, Progress.going}
-use Rattle.model.specs.Counts.{stepAt}
-use Rattle.model.proofs.RunLaws.{recordAt, Keeps, reach-start, reach-accepts, each-record}
+use Rattle.model.specs.Run.{rowAt, rowOf, blank, startRow, startRows, fresh, move, moveAt, stop, after, stepAt, stepTape, reach, Progress.going}
+use Rattle.model.proofs.RunLaws.{recordAt, Keeps, reach-start, follow-accepts, each-record}
 use Rattle.model.proofs.Turns.{each-row, move-or-stop}
 use Rattle.model.proofs.Rows.{local-ok, row-ok, next-ok, ok-begin, ok-blank}
 pub use Rattle.model.proofs.Rows.{RowOk, slot-small}
@@ -160,7 +159,7 @@ module _ (u : Shape) (so : Sound u) (xs : List ℕ) (st : Starts u xs) where
       → ((k : ℕ) (s : State) → reach u (fresh u xs) rest k ≡ going s → Kept u s → Admitted u s (stepAt rest k) → P k s → P (suc k) (after u s (stepAt rest k)))
       → (k : ℕ) {s : State} → reach u (fresh u xs) rest k ≡ going s → Kept u s × P k s
   each-kept rest P start keep k e =
-      let all = each-record u (fresh u xs) rest Q (reach-start u (fresh u xs) rest, kept-fresh, start) kept k e in
+      let all = each-record (stepTape u rest) (fresh u xs) Q (reach-start u (fresh u xs) rest, kept-fresh, start) kept k e in
       (all .1, all .2)
     where
       Q : ℕ → State → Type 0
@@ -169,7 +168,7 @@ module _ (u : Shape) (so : Sound u) (xs : List ℕ) (st : Starts u xs) where
       kept : Keeps u rest Q
       kept k s h q =
           let ad = admitted u s (recordAt rest k) h in
-          (reach-accepts u (fresh u xs) rest k (q .0) h, kept-after u so s (q .1) _ ad, keep k s (q .0) (q .1) ad (q .2))
+          (follow-accepts (stepTape u rest) (fresh u xs) k (q .0) h, kept-after u so s (q .1) _ ad, keep k s (q .0) (q .1) ad (q .2))
 
   pub reach-kept : (rest : List ℕ) (k : ℕ) {s : State} → reach u (fresh u xs) rest k ≡ going s → Kept u s
   reach-kept rest k e = each-kept rest (λ k s. Unit {0}) tt (λ k s e kt ad z. tt) k e .0

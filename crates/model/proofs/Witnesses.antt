@@ -16,7 +16,7 @@ use Rattle.setups.specs.Setup.{badKind, badSize, badStart, setupRefusal}
 use Rattle.steps.specs.Step.{stepRefusal}
 use Rattle.model.specs.declared.State.{State}
 use Rattle.model.specs.Bounds.{Bytes}
-use Rattle.model.specs.Run.{rowAt, startRows, fresh, moveAt, stop, after, judge, recordRefusal, advance, reach, records, startOf, reached, runRefusal, runOf, Progress, Progress.going, Progress.stopped}
+use Rattle.model.specs.Run.{rowAt, startRows, fresh, moveAt, stop, after, judge, recordRefusal, advance, follow, runOn, records, startOf, reached, runRefusal, runOf, Progress, Progress.going, Progress.stopped}
 use Rattle.model.specs.Counts.{howMany}
 use Rattle.model.specs.Claims.{At, Inside, Occupies, Decides, Proposed, movesIn, latesIn, shown}
 use Rattle.model.specs.Report.{line, lines, reportOf, outcomeOf, ranOf}
@@ -81,7 +81,7 @@ pub record Witnessed : Type 0 where
   pub report-bound : (shown (trace 15) (old 8) 0 2 ≡ 7) × (shown (trace 15) (old 8) 0 3 ≡ 1) × (shown (trace 15) (old 8) 0 0 ≡ 8)
 
 pub witnesses : Witnessed
-unfolding afterRead afterWrite badKind badSize badStart setupRefusal stepRefusal startRows fresh moveAt stop after judge recordRefusal advance reach records runRefusal runOf line lines reportOf outcomeOf ranOf howMany
+unfolding afterRead afterWrite badKind badSize badStart setupRefusal stepRefusal startRows fresh moveAt stop after judge recordRefusal advance follow runOn records runRefusal line lines reportOf outcomeOf ranOf howMany
 witnesses =
     record {
       two-inside = (at 8 11 tt refl refl, ((refl, refl), refl), ((refl, refl), refl));
