@@ -7,6 +7,7 @@ use mathlib.Core.Bool.{Bool, true, false, cond, _&&_}
 use mathlib.Core.List.{List}
 use native.Mathlib.Omega.{arith}
 use borrow.Author.Tests.{eq-eqb, ne-eqb}
+use Rattle.terms.specs.declared.SlotNumber.{SlotNumber}
 use Rattle.terms.specs.Numbers.{processOf, indexOf}
 use Rattle.steps.specs.declared.Step.{Step}
 use Rattle.setups.specs.Setup.{setupFields}
@@ -16,8 +17,8 @@ use Rattle.model.specs.declared.Row.{Row}
 use Rattle.model.specs.declared.State.{State}
 use Rattle.model.specs.Routine.{Routine, routine, crash, unmoved, begin}
 use Rattle.model.specs.Bounds.{Bytes, Sound, Starts}
-use Rattle.model.specs.Run.{rowAt, rowOf, fresh, isMove, after, reach, Progress, Progress.going, shapeOf, restOf, startOf, records, runOf}
-use Rattle.model.specs.Counts.{howMany, stepAt, moveOf, lateIn, movesOf, latesOf}
+use Rattle.model.specs.Run.{rowAt, rowOf, fresh, isMove, after, stepAt, reach, Progress, Progress.going, shapeOf, restOf, startOf, records, runOf}
+use Rattle.model.specs.Counts.{howMany, moveOf, lateIn, movesOf, latesOf}
 use Rattle.model.proofs.RunLaws.{run-going}
 use Rattle.model.proofs.Turns.{rowGone, turn}
 use Rattle.model.proofs.Keeping.{Kept, Admitted, fresh-rows, each-kept}
@@ -25,7 +26,7 @@ use Rattle.model.proofs.SetupSays.{run-said, setup-sound, setup-starts}
 
 -- A COLUMN of the rows that begins at 0, keeps through a crash, and grows by one at each move that passes the test
 pub record Column (u : Shape) (f : Row → ℕ) (test : Progress → Step → Bool) : Type 0 where
-  pub begins : (p : Place) (c v : ℕ) → f (unmoved p c v) ≡ 0
+  pub begins : (p : Place) (c : SlotNumber) (v : ℕ) → f (unmoved p c v) ≡ 0
   pub stops : (r : Row) → f (crash r) ≡ f r
   pub goes : (s : State) (k : Step) → f (rowGone u s k) ≡ f (rowOf s (k .process)) + cond (test (going s) k) 1 0
 
@@ -59,7 +60,7 @@ one-fewer false b = omega arith
 
 module _ (u : Shape) (f : Row → ℕ) (test : Progress → Step → Bool) (c : Column u f test) where
   begins-at : (κ : Routine) (j x : ℕ) → f (begin κ j x) ≡ 0
-  begins-at Routine.Lock j x = c .begins _ _ _
+  begins-at (Routine.Lock how) j x = c .begins _ _ _
   begins-at Routine.Plain j x = c .begins _ _ _
   begins-at Routine.Fast j x = c .begins _ _ _
 
@@ -74,7 +75,7 @@ module _ (u : Shape) (f : Row → ℕ) (test : Progress → Step → Bool) (c : 
     one-more k s e kt ad so-far =
         let here = stepAt rest k in
         let i = indexOf (here .process) in
-        turn u s here (omega (arith, kt .rows, ad .inside, so .few)) (λ j r. f r ≡ tallyOf j (suc k))
+        turn u s here (omega (arith, kt .rows, ad .inside)) (λ j r. f r ≡ tallyOf j (suc k))
         (λ j n. omega (arith, so-far j, uncounted (test (reach u (fresh u xs) rest k) here) _ (others-move here (ad .process) j n)))
         (λ b. omega (arith, so-far i, c .stops (rowAt s i), uncounted (test (reach u (fresh u xs) rest k) here) _ (own-move here (ad .process) ∙ b)))
         (λ b.
@@ -135,6 +136,6 @@ reach-counts u so xs st rest k e j =
 pub run-counts : (trace : List ℕ) (room : ℕ) {s : State} → Bytes trace → runOf trace room ≡ going s
     → (j : ℕ) → Counted (shapeOf (setupFields trace)) (startOf trace) (restOf trace) (records (restOf trace)) j (rowAt s j)
 run-counts trace room bytes e =
-    let both = run-going trace room e in
+    let both = run-going _ _ _ _ e in
     let setup = run-said trace room (both .0) .setup in
     reach-counts _ (setup-sound trace setup bytes) _ (setup-starts trace setup) (restOf trace) _ (both .1)

@@ -8,8 +8,8 @@ use native.Mathlib.Omega.{arith}
 use lib.Dec.{T}
 use Rattle.model.specs.declared.Place.{Place}
 use Rattle.terms.specs.Limits.{unlimited}
-use Rattle.model.specs.Routine.{Routine, Slots, counted, crash, lockNext}
-use Rattle.model.proofs.Places.{imply, differ, inKind, putting, inside, claiming, holding}
+use Rattle.model.specs.Routine.{Slots, counted, crash, lockNext}
+use Rattle.model.proofs.Places.{imply, differ, ofLock, putting, inside, claiming, holding}
 use Rattle.model.proofs.World.{Seat, Commons, World, At, Putting, Clock, wakeOf, Moves, put-all, moved, crashed, slotAt, wakeOn, ownOf}
 use Rattle.model.proofs.Pattern.{LateFrom, Bound, read-binds, stays-bound, wait-outlasts, Definitive, Touches, definitive-stands}
 
@@ -121,7 +121,7 @@ away k w m s f l none a b =
 
 -- the places of the lock
 abbrev pub OfLock : Place → Type 0
-OfLock p = T (inKind Routine.Lock p)
+OfLock p = T (ofLock p)
 
 module _ (k : Clock) (w : World) (m t : ℕ) (inv : LockInv k w) (c : Slots) (l : Bool)
     (later : w .floor ≤ t) (short : t < unlimited) (awake : wakeOn (w .seat m) ≤ k .next t) (named : ownOf (w .seat m) ≡ suc m) where

@@ -17,9 +17,9 @@ use Rattle.setups.specs.Setup.{setupFields}
 use Rattle.model.specs.declared.Shape.{Shape}
 use Rattle.model.specs.declared.State.{State}
 use Rattle.model.specs.Routine.{routine}
-use Rattle.model.specs.Run.{fresh, recordRefusal, Progress, Progress.going, Progress.stopped, advance, reach, records, shapeOf, restOf, reached, runRefusal, runOf}
+use Rattle.model.specs.Run.{fresh, recordRefusal, Progress, Progress.going, Progress.stopped, recordAt, advance, follow, stepTape, reach, records, shapeOf, restOf, reached, runRefusal, runOf}
 use Rattle.model.specs.Report.{lines, reportOf, outcomeOf, ranOf}
-use Rattle.model.proofs.RunLaws.{reach-going-before, reach-long, records-end, run-reaches, run-ends, run-going}
+use Rattle.model.proofs.RunLaws.{follow-going-before, reach-long, records-end, run-follows, run-ends, run-going}
 use Rattle.model.proofs.SetupSays.{run-said, said-run}
 use Rattle.model.proofs.Cuts.{reach-cut, setup-fields-cut, setup-cut, rest-cut}
 
@@ -74,8 +74,8 @@ module _ (trace old : List ℕ) (fits : runRefusal trace (length old) ≡ 0) (k 
 -- every point of an accepted run
 pub cut-anywhere : (trace old : List ℕ) {s : State} → runOf trace (length old) ≡ going s → (k : ℕ) → k ≤ records (restOf trace) → (t : State) × CutThere trace old k t
 cut-anywhere trace old e k l =
-    let both = run-going trace (length old) e in
-    let there = reach-going-before _ _ (restOf trace) k (records (restOf trace)) (both .1) l in
+    let both = run-going _ _ _ _ e in
+    let there = follow-going-before _ _ k (records (restOf trace)) (both .1) l in
     (there .0, cut-there trace old (both .0) k (there .1))
 
 -- TWO PARTS, one after the other
@@ -89,21 +89,21 @@ behind-if : (a k y : ℕ) (s : State) → behind a (ifAccepted y (going s) (stop
 behind-if a k zero s = refl
 behind-if a k (suc y) s = refl
 
-behind-advance : (u : Shape) (a k : ℕ) (p : Progress) (bytes : List ℕ) → advance u (a + k) (behind a p) bytes ≡ behind a (advance u k p bytes)
-unfolding advance
-behind-advance u a k (going s) bytes = sym (behind-if a k (recordRefusal u s bytes) _)
-behind-advance u a k (stopped y j) bytes = refl
-
 pub reach-parts : (u : Shape) (x : State) (rest : List ℕ) (a b : ℕ) {s : State} → reach u x rest a ≡ going s
-    → reach u x rest (a + b) ≡ behind a (reach u s (drop (a * 8) rest) b)
-unfolding reach
+    → reach u x rest (a + b) ≡ behind a (reach u s (recordAt rest a) b)
+unfolding follow advance
 reach-parts u x rest a zero e = rw add-zero e
 reach-parts u x rest a (suc b) {s} e =
-    let place : a * 8 + b * 8 ≡ (a + b) * 8 = omega arith in
-    let there : drop (b * 8) (drop (a * 8) rest) ≡ drop ((a + b) * 8) rest = drop-drop (b * 8) (a * 8) rest ∙ ap (λ (n : ℕ). drop n rest) place in
-    rw (add-suc, ← there)
-    (ap (λ (p : Progress). advance u (suc (a + b)) p (drop (b * 8) (drop (a * 8) rest))) (reach-parts u x rest a b e)
-    ∙ rw (← add-suc a b) (behind-advance u a (suc b) (reach u s (drop (a * 8) rest) b) (drop (b * 8) (drop (a * 8) rest))))
+    rw (add-suc) (ap (advance (stepTape u rest) (a + b)) (reach-parts u x rest a b e) ∙ here (reach u s (recordAt rest a) b))
+  where
+    there : recordAt (recordAt rest a) b ≡ recordAt rest (a + b)
+    there =
+        let place : a * 8 + b * 8 ≡ (a + b) * 8 = omega arith in
+        drop-drop (b * 8) (a * 8) rest ∙ ap (λ (n : ℕ). drop n rest) place
+
+    here : (p : Progress) → advance (stepTape u rest) (a + b) (behind a p) ≡ behind a (advance (stepTape u (recordAt rest a)) b p)
+    here (going y) = rw (← there, ← add-suc a b) (sym (behind-if a (suc b) (recordRefusal u y (recordAt (recordAt rest a) b)) _))
+    here (stopped y j) = refl
 
 -- NOTHING BUT THE BYTES AND THE REPORT'S LENGTH
 
@@ -130,4 +130,4 @@ written-by-length trace room =
 
 -- two reports that are both long enough see the same run
 pub run-by-bytes : (trace : List ℕ) (room other : ℕ) → runRefusal trace room ≡ 0 → runRefusal trace other ≡ 0 → runOf trace room ≡ runOf trace other
-run-by-bytes trace room other h g = run-reaches trace room h ∙ sym (run-reaches trace other g)
+run-by-bytes trace room other h g = run-follows _ _ _ _ h ∙ sym (run-follows _ _ _ _ g)

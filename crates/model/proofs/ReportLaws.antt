@@ -22,7 +22,7 @@ use Rattle.model.specs.Routine.{Routine}
 use Rattle.model.specs.Sizes.{lineWidth}
 use Rattle.model.specs.Run.{blank, shapeOf, restOf, runRefusal, runOf, records, reached, Progress, Progress.going, Progress.stopped}
 use Rattle.model.specs.Report.{shownPlace, figureOf, line, lines, reportOf, outcomeOf, Ran, ranOf}
-use Rattle.model.proofs.RunLaws.{run-refused, run-reaches}
+use Rattle.model.proofs.RunLaws.{run-refused, run-follows}
 
 -- LINES
 
@@ -73,7 +73,7 @@ ran-stopped u rest old e = sym (ap (ranBy u rest old) e)
 module _ (trace old : List ℕ) where
   refused-first : (runRefusal trace (length old) ≡ 0 → ⊥) → refusedRun (runRefusal trace (length old)) 0 old ≡ ranOf trace old
   unfolding ranOf
-  refused-first h = ran-stopped (shapeOf (setupFields trace)) (restOf trace) old (run-refused trace (length old) h)
+  refused-first h = ran-stopped (shapeOf (setupFields trace)) (restOf trace) old (run-refused _ _ _ _ h)
 
   refused-as : (x : ℕ) → runRefusal trace (length old) ≡ suc x → refusedRun (suc x) 0 old ≡ ranOf trace old
   refused-as x e = ap (λ (y : ℕ). refusedRun y 0 old) (sym e) ∙ refused-first (λ z. absurd (omega arith))
@@ -102,4 +102,4 @@ module _ (trace old : List ℕ) where
       unfolding runRefusal ranOf
       ran-on h =
           let accepted : runRefusal trace (length old) ≡ 0 = rw (set, le-ltb (length old) (lineWidth * byte 3 trace) wide, le-ltb (8 * mostSteps) (length (restOf trace)) h) in
-          ap (ranBy (shapeOf (setupFields trace)) (restOf trace) old) (sym (run-reaches trace (length old) accepted))
+          ap (ranBy (shapeOf (setupFields trace)) (restOf trace) old) (sym (run-follows _ _ _ _ accepted))

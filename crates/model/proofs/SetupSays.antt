@@ -19,7 +19,7 @@ use Rattle.model.specs.Bounds.{Bytes, Sound, startOk, Starts}
 use Rattle.model.specs.Sizes.{lineWidth}
 use Rattle.model.specs.Run.{kindOf, shapeOf, restOf, runRefusal}
 
-start-ok : (kind size x : ℕ) → badStart kind size x ≡ false → startOk (routineOf (kindOf kind)) size x
+pub start-ok : (kind size x : ℕ) → badStart kind size x ≡ false → startOk (routineOf (kindOf kind)) size x
 start-ok kind size x good = by (eqb kind 1) refl (eqb kind 2)
   where
     by : (b : Bool) → eqb kind 1 ≡ b → (c : Bool) → startOk (routineOf (cond b Kind.Lock (cond c Kind.Plain Kind.Fast))) size x
@@ -36,7 +36,6 @@ module _ (trace : List ℕ) (h : setupRefusal mostProcesses trace ≡ 0) where
       let l = said .head .limits in
       record {
         some = l .someone;
-        few = l .few;
         sized = l .sizeLow;
         slim = l .sizeHigh;
         bounded = omega (arith, bytes 6, bytes 7);
@@ -46,7 +45,7 @@ module _ (trace : List ℕ) (h : setupRefusal mostProcesses trace ≡ 0) where
   setup-starts =
       let whole = said .head .whole in
       record {
-        long = length-places mostProcesses (startBytes trace) (omega (arith, start-count trace whole, said .head .limits .few));
+        few = rw (length-places mostProcesses (startBytes trace) (omega (arith, start-count trace whole, said .head .limits .few))) (said .head .limits .few);
         each =
             λ j below.
             rw (place-at trace whole mostProcesses j below)

@@ -3,12 +3,13 @@
 -- setup may have, late writes and crashes anywhere.
 -- Assumes nothing.
 use Prim.Native.Nat.{ℕ, suc, _+_, _*_, _≤_, _<_}
-use mathlib.Core.Path.{_≡_, sym, _∙_}
+use mathlib.Core.Path.{_≡_, sym, ap, _∙_}
 use mathlib.Core.Bool.{false}
 use mathlib.Core.List.{List}
 use native.Mathlib.Omega.{arith}
 use native.Mathlib.Decide.{decLt}
 use Rattle.terms.specs.declared.ProcessNumber.{ProcessNumber}
+use Rattle.terms.specs.declared.SlotNumber.{SlotNumber}
 use Rattle.terms.specs.Limits.{topTick}
 use Rattle.terms.specs.Numbers.{slotOf}
 use Rattle.bank.specs.Registers.{valueAt, lateAt}
@@ -26,15 +27,15 @@ use Rattle.model.proofs.Reached.{run-led, refused-led, point, proposed-
 -- AT EVERY POINT of a run: s is the state after the first k records, all of them accepted
 module _ {trace : List ℕ} {k : ℕ} {s : State} (at : At trace k s) where
   -- Exclusion: two that are inside one slot, crashed or not, are one.
-  pub exclusion : (c i j : ℕ) → Inside s i c → Inside s j c → i ≡ j
-  exclusion c i j a b = one-inside (point at) j (rw (b .0) tt) i (rw (a .0) tt) (a .1 ∙ sym (b .1))
+  pub exclusion : (c : SlotNumber) (i j : ℕ) → Inside s i c → Inside s j c → i ≡ j
+  exclusion c i j a b = one-inside (point at) j (rw (b .0) tt) i (rw (a .0) tt) (ap (λ (d : SlotNumber). d .0) (a .1 ∙ sym (b .1)))
 
   -- So a slot has at most one occupant.
-  pub one-occupant : (c i j : ℕ) → Occupies s i c → Occupies s j c → i ≡ j
+  pub one-occupant : (c : SlotNumber) (i j : ℕ) → Occupies s i c → Occupies s j c → i ≡ j
   one-occupant c i j a b = exclusion c i j (a .0) (b .0)
 
   -- The register of a slot holds the number of who is inside: nobody has written over it.
-  pub slot-is-marked : (c j : ℕ) → Inside s j c → valueAt (s .bank) (slotOf c) ≡ suc j
+  pub slot-is-marked : (c : SlotNumber) (j : ℕ) → Inside s j c → valueAt (s .bank) c ≡ suc j
   slot-is-marked c j a = rw (← a .1) (number-stands (point at) j (rw (a .0) tt))
 
   -- Leaving is never late: whenever a process leaves its section, its slot is empty afterwards.

@@ -10,13 +10,13 @@ use lib.ListN.{getD, replicate}
 use borrow.Author.Tests.{ltb-true}
 use Rattle.terms.specs.Limits.{mostProcesses}
 use Rattle.terms.specs.Numbers.{slotOf}
-use Rattle.bank.specs.Registers.{freshBank, afterRead, afterWrite, valueAt}
+use Rattle.bank.specs.Registers.{afterRead, afterWrite, valueAt}
 use Rattle.records.specs.Record.{byte}
 use Rattle.setups.specs.Setup.{badKind, badSize, badStart, setupRefusal}
 use Rattle.steps.specs.Step.{stepRefusal}
 use Rattle.model.specs.declared.State.{State}
 use Rattle.model.specs.Bounds.{Bytes}
-use Rattle.model.specs.Run.{rowAt, startRows, fresh, moveAt, stop, after, judge, recordRefusal, advance, reach, records, startOf, reached, runRefusal, runOf, Progress, Progress.going, Progress.stopped}
+use Rattle.model.specs.Run.{rowAt, startRows, fresh, moveAt, stop, after, judge, recordRefusal, advance, follow, runOn, records, startOf, reached, runRefusal, runOf, Progress, Progress.going, Progress.stopped}
 use Rattle.model.specs.Counts.{howMany}
 use Rattle.model.specs.Claims.{At, Inside, Occupies, Decides, Proposed, movesIn, latesIn, shown}
 use Rattle.model.specs.Report.{line, lines, reportOf, outcomeOf, ranOf}
@@ -61,10 +61,10 @@ at i k b s e = record { bytes = all-bytes (trace i) b; setup = s; led = e }
 
 pub record Witnessed : Type 0 where
   -- exclusion, with two inside: P9; and with one that crashed inside
-  pub two-inside : At (trace 8) 11 (led 8 11) × Occupies (led 8 11) 0 0 × Occupies (led 8 11) 1 1
-  pub crashed-inside : At (trace 16) 6 (led 16 6) × Inside (led 16 6) 0 0 × (rowAt (led 16 6) 0 .crashed ≡ true)
+  pub two-inside : At (trace 8) 11 (led 8 11) × Occupies (led 8 11) 0 (slotOf 0) × Occupies (led 8 11) 1 (slotOf 1)
+  pub crashed-inside : At (trace 16) 6 (led 16 6) × Inside (led 16 6) 0 (slotOf 0) × (rowAt (led 16 6) 0 .crashed ≡ true)
   -- leaving: the next record is a move out of the section, and the slot is empty then
-  pub leaves : At (trace 17) 5 (led 17 5) × Inside (led 17 5) 0 0 × At (trace 17) 6 (led 17 6) × (valueAt (led 17 6 .bank) (slotOf 0) ≡ 0)
+  pub leaves : At (trace 17) 5 (led 17 5) × Inside (led 17 5) 0 (slotOf 0) × At (trace 17) 6 (led 17 6) × (valueAt (led 17 6 .bank) (slotOf 0) ≡ 0)
   -- agreement and validity: P5, where process 1 decides the proposal of process 2, and the other later; P10, without a wait
   pub first-decides : At (trace 4) 7 (led 4 7) × Decides (led 4 7) 0 2 × Proposed (trace 4) (led 4 7) 2
   pub both-decide : At (trace 4) 10 (led 4 10) × Decides (led 4 10) 0 2 × Decides (led 4 10) 1 2
@@ -81,7 +81,7 @@ pub record Witnessed : Type 0 where
   pub report-bound : (shown (trace 15) (old 8) 0 2 ≡ 7) × (shown (trace 15) (old 8) 0 3 ≡ 1) × (shown (trace 15) (old 8) 0 0 ≡ 8)
 
 pub witnesses : Witnessed
-unfolding freshBank afterRead afterWrite badKind badSize badStart setupRefusal stepRefusal startRows fresh moveAt stop after judge recordRefusal advance reach records runRefusal runOf line lines reportOf outcomeOf ranOf howMany
+unfolding afterRead afterWrite badKind badSize badStart setupRefusal stepRefusal startRows fresh moveAt stop after judge recordRefusal advance follow runOn records runRefusal line lines reportOf outcomeOf ranOf howMany
 witnesses =
     record {
       two-inside = (at 8 11 tt refl refl, ((refl, refl), refl), ((refl, refl), refl));

@@ -6,6 +6,7 @@ use mathlib.Core.Bool.{false}
 use mathlib.Core.List.{List}
 use lib.ListN.{getD}
 use Rattle.terms.specs.Limits.{mostProcesses}
+use Rattle.terms.specs.declared.SlotNumber.{SlotNumber}
 use Rattle.terms.specs.Numbers.{processOf}
 use Rattle.records.specs.Record.{byte}
 use Rattle.setups.specs.Setup.{setupRefusal, setupFields}
@@ -30,10 +31,10 @@ abbrev pub shape : List ℕ → Shape
 shape trace = shapeOf (setupFields trace)
 
 -- row j is at its section, place 5, on slot c, crashed or not; 01's occupants are those of them that have not crashed
-abbrev pub Inside : State → ℕ → ℕ → Type 0
-Inside s j c = (rowAt s j .local .place ≡ Place.Critical) × (rowAt s j .local .slot .0 ≡ c)
+abbrev pub Inside : State → ℕ → SlotNumber → Type 0
+Inside s j c = (rowAt s j .local .place ≡ Place.Critical) × (rowAt s j .local .slot ≡ c)
 
-abbrev pub Occupies : State → ℕ → ℕ → Type 0
+abbrev pub Occupies : State → ℕ → SlotNumber → Type 0
 Occupies s j c = Inside s j c × (rowAt s j .crashed ≡ false)
 
 -- row j has decided v

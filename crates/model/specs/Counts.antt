@@ -1,27 +1,21 @@
 -- Moves and late writes as counts of records (01, "The trace").
-use Prim.Native.Nat.{ℕ, zero, suc, _+_, _*_}
+use Prim.Native.Nat.{ℕ, zero, suc, _+_}
 use mathlib.Core.Bool.{Bool, false, cond, _&&_}
 use mathlib.Core.List.{List}
 use lib.Dec.{eqb}
-use lib.ListN.{drop}
 use Rattle.terms.specs.declared.ProcessNumber.{ProcessNumber}
 use Rattle.steps.specs.declared.Step.{Step}
-use Rattle.steps.specs.Step.{stepFields}
 use Rattle.model.specs.declared.Shape.{Shape}
 use Rattle.model.specs.declared.Reply.{Reply}
 use Rattle.model.specs.declared.State.{State}
 use Rattle.model.specs.Routine.{askAt}
 use Rattle.model.specs.Memory.{reply}
-use Rattle.model.specs.Run.{rowOf, isMove, Progress, Progress.going, Progress.stopped, reach}
+use Rattle.model.specs.Run.{rowOf, isMove, Progress, Progress.going, Progress.stopped, stepAt, reach}
 
 -- at how many of 0 .. k - 1 a test holds
 unfoldable pub howMany : (ℕ → Bool) → ℕ → ℕ
 howMany test zero = 0
 howMany test (suc k) = howMany test k + cond (test k) 1 0
-
--- the record after the first k of these bytes
-abbrev pub stepAt : List ℕ → ℕ → Step
-stepAt rest k = stepFields (drop (k * 8) rest)
 
 -- a record of process i with event 0
 abbrev pub moveOf : ProcessNumber → Step → Bool

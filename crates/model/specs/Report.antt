@@ -12,7 +12,7 @@ use Rattle.model.specs.declared.Outcome.{Outcome}
 use Rattle.model.specs.Routine.{Routine, routine}
 use Rattle.model.specs.Run.{blank, Progress, Progress.going, Progress.stopped, shapeOf, restOf, records, runOf}
 
--- the number of a place
+-- what the report shows of a place
 abbrev pub shownOf : Place → ℕ
 shownOf Place.Rest = 0
 shownOf Place.Look = 1
@@ -30,7 +30,7 @@ shownPlace r = cond (r .crashed) 9 (shownOf (r .local .place))
 
 -- the second number: c for a lock, else the decided value
 abbrev pub figureOf : Routine → Row → ℕ
-figureOf Routine.Lock r = r .local .slot .0
+figureOf (Routine.Lock how) r = r .local .slot .0
 figureOf Routine.Plain r = r .local .decided
 figureOf Routine.Fast r = r .local .decided
 
