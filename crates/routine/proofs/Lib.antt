@@ -1,3 +1,2 @@
 pub mod Settled
-pub mod SlotLaws
 pub mod TakeLaws

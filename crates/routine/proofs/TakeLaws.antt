@@ -11,7 +11,7 @@ use Rattle.rows.specs.Rows.{taken}
 
 module _ (u : Shape) (w : ℕ) (r : Row) where
   empty : (k : Routine) → counted false (to Place.Put (r .local)) r ≡ counted false (nextOf k u (r .own) Place.Look true 0 w (r .local)) r
-  empty Routine.Lock = refl
+  empty (Routine.Lock how) = refl
   empty Routine.Plain = refl
   empty Routine.Fast = refl
 
@@ -20,7 +20,7 @@ module _ (u : Shape) (w : ℕ) (r : Row) where
   looked v e = rw e (empty (routine u))
 
   waits-of : (k : Routine) → counted false (until w (to Place.Check (r .local))) r ≡ counted false (nextOf k u (r .own) Place.Wait true 0 w (r .local)) r
-  waits-of Routine.Lock = refl
+  waits-of (Routine.Lock how) = refl
   waits-of Routine.Plain = refl
   waits-of Routine.Fast = refl
 
@@ -29,7 +29,7 @@ module _ (u : Shape) (w : ℕ) (r : Row) where
   waits = waits-of (routine u)
 
   stays-of : (k : Routine) → counted false (r .local) r ≡ counted false (nextOf k u (r .own) Place.Decided true 0 w (r .local)) r
-  stays-of Routine.Lock = refl
+  stays-of (Routine.Lock how) = refl
   stays-of Routine.Plain = refl
   stays-of Routine.Fast = refl
 

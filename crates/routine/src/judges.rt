@@ -2,8 +2,10 @@
 ghost use mathlib.Core.Path.{_≡_};
 ghost use Rattle.model.specs.Run;
 ghost use Rattle.model.specs.Routine.{isDecided};
-ghost use Rattle.rows.specs.Rows.{rowIn, Inside};
+ghost use Rattle.rows.specs.Rows.{rowIn, IsRow};
 use model::Place;
+use model::Shape;
+use rows::NUMBERS;
 use steps::Step;
 
 fn is_decided(place: Place) -> bool
@@ -22,12 +24,12 @@ fn is_decided(place: Place) -> bool
     }
 }
 
-// What refuses a step of the process in row j. Any step: 13, its tick is below the last; 14, the process has crashed. A move: 15, it has decided; 16, it still waits. 0: nothing.
-pub fn judge(j: usize, rows: &[u32; 288], last: u32, step: Step) -> u32
-    requires { ⌜ Inside j ⌝ }
-    ensures { λ no. ⌜ no ≡ Run.judge (rowIn (now (rows .entry)) j) last step ⌝ }
+// What refuses a step of the process in row j. Any step: 13, its tick is below the newest; 14, the process has crashed. A move: 15, it has decided; 16, it still waits. 0: nothing.
+pub fn judge(shape: Shape, j: usize, rows: &[u32; NUMBERS], newest: u32, step: Step) -> u32
+    requires { ⌜ IsRow j ⌝ }
+    ensures { λ no. ⌜ no ≡ Run.judge shape (rowIn (now (rows .entry)) j) newest step ⌝ }
 {
-    if step.tick < last {
+    if step.tick < newest {
         return 13;
     }
     if rows::is_crashed(j, rows) {

@@ -6,49 +6,51 @@ ghost use Rattle.terms.specs.Limits.{mostSlots, topTick};
 ghost use Rattle.model.specs.Bounds.{Sound, Room};
 ghost use Rattle.model.specs.Time.{wakeAt};
 ghost use Rattle.model.specs.declared.Place.{Place};
-ghost use Rattle.model.specs.Routine.{slots, scanAt, scanFrom};
-ghost use Rattle.rows.specs.Rows.{rowIn, Inside, Whole, Changed, turn, taken, Takes};
+ghost use Rattle.model.specs.Routine.{SlotRule, slotsOf, scanAt, scanFrom};
+ghost use Rattle.rows.specs.Rows.{rowIn, IsRow, Whole, Changed, turn, taken, Takes};
 use model::Kind;
 use model::Place;
 use model::Shape;
+use rows::NUMBERS;
+use terms::SlotNumber;
 
 // The slots that a lock's process takes: when it leaves rest, when it finds its slot filled, when it loses its check.
 
-fn leave(shape: Shape, j: usize, rows: &[u32; 288]) -> u32
-    requires { ⌜ Inside j ⌝ }
-    ensures { λ c. ⌜ c ≡ slots shape (rowIn (now (rows .entry)) j .local) .leave ⌝ }
+fn leave(shape: Shape, j: usize, rows: &[u32; NUMBERS]) -> SlotNumber
+    requires { ⌜ IsRow j ⌝ }
+    ensures { λ c. ⌜ c ≡ slotsOf SlotRule.Ring shape (rowIn (now (rows .entry)) j .local) .leave ⌝ }
 {
-    rows::slot(j, rows).0
+    rows::slot(j, rows)
 }
 
 // The next slot round. A slot that there is takes no division.
-fn filled(shape: Shape, j: usize, rows: &[u32; 288]) -> u32
-    requires { ⌜ Inside j ⌝ }
+fn filled(shape: Shape, j: usize, rows: &[u32; NUMBERS]) -> SlotNumber
+    requires { ⌜ IsRow j ⌝ }
     requires { ⌜ Sound shape ⌝ }
     requires { ⌜ rowIn (now rows) j .local .slot .0 < mostSlots ⌝ }
-    ensures { λ c. ⌜ c ≡ slots shape (rowIn (now (rows .entry)) j .local) .filled ⌝ }
+    ensures { λ c. ⌜ c ≡ slotsOf SlotRule.Ring shape (rowIn (now (rows .entry)) j .local) .filled ⌝ }
 {
     let c = rows::slot(j, rows);
     let next = c.0 + 1;
     if next < shape.size {
-        return next;
+        return SlotNumber(next);
     }
     if next == shape.size {
-        return 0;
+        return SlotNumber(0);
     }
-    next % shape.size
+    SlotNumber(next % shape.size)
 }
 
-fn lost(shape: Shape, j: usize, rows: &[u32; 288]) -> u32
-    requires { ⌜ Inside j ⌝ }
-    ensures { λ c. ⌜ c ≡ slots shape (rowIn (now (rows .entry)) j .local) .lost ⌝ }
+fn lost(shape: Shape, j: usize, rows: &[u32; NUMBERS]) -> SlotNumber
+    requires { ⌜ IsRow j ⌝ }
+    ensures { λ c. ⌜ c ≡ slotsOf SlotRule.Ring shape (rowIn (now (rows .entry)) j .local) .lost ⌝ }
 {
-    rows::slot(j, rows).0
+    rows::slot(j, rows)
 }
 
 // The scan goes on at value v, or ends past the last one.
-fn scan_at(size: u32, v: u32, j: usize, rows: &mut [u32; 288])
-    requires { ⌜ Inside j ⌝ }
+fn scan_at(size: u32, v: u32, j: usize, rows: &mut [u32; NUMBERS])
+    requires { ⌜ IsRow j ⌝ }
     ensures { λ _. ⌜ Changed j (turn (scanAt size v)) (now (rows .entry)) (now (rows .exit)) ⌝ }
 {
     if v <= size {
@@ -60,8 +62,8 @@ fn scan_at(size: u32, v: u32, j: usize, rows: &mut [u32; 288])
 }
 
 // From value v on, its own skipped.
-fn scan_from(size: u32, v: u32, j: usize, rows: &mut [u32; 288])
-    requires { ⌜ Inside j ⌝ }
+fn scan_from(size: u32, v: u32, j: usize, rows: &mut [u32; NUMBERS])
+    requires { ⌜ IsRow j ⌝ }
     requires { ⌜ v ≤ mostSlots + 1 ⌝ }
     ensures { λ _. ⌜ Changed j (λ r. turn (scanFrom size (r .own) v) r) (now (rows .entry)) (now (rows .exit)) ⌝ }
 {
@@ -72,8 +74,8 @@ fn scan_from(size: u32, v: u32, j: usize, rows: &mut [u32; 288])
     scan_at(size, v, j, rows);
 }
 
-pub fn rest(shape: Shape, j: usize, rows: &mut [u32; 288])
-    requires { ⌜ Inside j ⌝ }
+pub fn rest(shape: Shape, j: usize, rows: &mut [u32; NUMBERS])
+    requires { ⌜ IsRow j ⌝ }
     requires { ⌜ Room shape (rowIn (now rows) j) ⌝ }
     ensures { λ _. ⌜ Takes shape Place.Rest 0 false j (now (rows .entry)) (now (rows .exit)) ⌝ }
 {
@@ -91,8 +93,8 @@ pub fn rest(shape: Shape, j: usize, rows: &mut [u32; 288])
 }
 
 // The register holds v.
-pub fn look(shape: Shape, v: u32, j: usize, rows: &mut [u32; 288])
-    requires { ⌜ Inside j ⌝ }
+pub fn look(shape: Shape, v: u32, j: usize, rows: &mut [u32; NUMBERS])
+    requires { ⌜ IsRow j ⌝ }
     requires { ⌜ Whole (now rows) ⌝ }
     requires { ⌜ Sound shape ⌝ }
     requires { ⌜ Room shape (rowIn (now rows) j) ⌝ }
@@ -120,8 +122,8 @@ pub fn look(shape: Shape, v: u32, j: usize, rows: &mut [u32; 288])
 }
 
 // The write was late, or done.
-pub fn put(shape: Shape, late: bool, j: usize, rows: &mut [u32; 288])
-    requires { ⌜ Inside j ⌝ }
+pub fn put(shape: Shape, late: bool, j: usize, rows: &mut [u32; NUMBERS])
+    requires { ⌜ IsRow j ⌝ }
     requires { ⌜ Room shape (rowIn (now rows) j) ⌝ }
     ensures { λ _. ⌜ Takes shape Place.Put 0 late j (now (rows .entry)) (now (rows .exit)) ⌝ }
 {
@@ -145,8 +147,8 @@ pub fn put(shape: Shape, late: bool, j: usize, rows: &mut [u32; 288])
 }
 
 // The wait begins at `tick`.
-pub fn wait(shape: Shape, tick: u32, j: usize, rows: &mut [u32; 288])
-    requires { ⌜ Inside j ⌝ }
+pub fn wait(shape: Shape, tick: u32, j: usize, rows: &mut [u32; NUMBERS])
+    requires { ⌜ IsRow j ⌝ }
     requires { ⌜ Sound shape ⌝ }
     requires { ⌜ Room shape (rowIn (now rows) j) ⌝ }
     requires { ⌜ tick ≤ topTick ⌝ }
@@ -158,8 +160,8 @@ pub fn wait(shape: Shape, tick: u32, j: usize, rows: &mut [u32; 288])
 }
 
 // The register holds v.
-pub fn check(shape: Shape, v: u32, j: usize, rows: &mut [u32; 288])
-    requires { ⌜ Inside j ⌝ }
+pub fn check(shape: Shape, v: u32, j: usize, rows: &mut [u32; NUMBERS])
+    requires { ⌜ IsRow j ⌝ }
     requires { ⌜ Room shape (rowIn (now rows) j) ⌝ }
     ensures { λ _. ⌜ Takes shape Place.Check v false j (now (rows .entry)) (now (rows .exit)) ⌝ }
 {
@@ -187,8 +189,8 @@ pub fn check(shape: Shape, v: u32, j: usize, rows: &mut [u32; 288])
 }
 
 // The write that empties the slot was late, or done.
-pub fn critical(shape: Shape, late: bool, j: usize, rows: &mut [u32; 288])
-    requires { ⌜ Inside j ⌝ }
+pub fn critical(shape: Shape, late: bool, j: usize, rows: &mut [u32; NUMBERS])
+    requires { ⌜ IsRow j ⌝ }
     requires { ⌜ Room shape (rowIn (now rows) j) ⌝ }
     ensures { λ _. ⌜ Takes shape Place.Critical 0 late j (now (rows .entry)) (now (rows .exit)) ⌝ }
 {
@@ -203,8 +205,8 @@ pub fn critical(shape: Shape, late: bool, j: usize, rows: &mut [u32; 288])
     }
 }
 
-pub fn flag(shape: Shape, j: usize, rows: &mut [u32; 288])
-    requires { ⌜ Inside j ⌝ }
+pub fn flag(shape: Shape, j: usize, rows: &mut [u32; NUMBERS])
+    requires { ⌜ IsRow j ⌝ }
     requires { ⌜ Room shape (rowIn (now rows) j) ⌝ }
     ensures { λ _. ⌜ Takes shape Place.Flag 0 false j (now (rows .entry)) (now (rows .exit)) ⌝ }
 {
@@ -220,8 +222,8 @@ pub fn flag(shape: Shape, j: usize, rows: &mut [u32; 288])
 }
 
 // The flag is v: 1 or 0.
-pub fn scan(shape: Shape, v: u32, j: usize, rows: &mut [u32; 288])
-    requires { ⌜ Inside j ⌝ }
+pub fn scan(shape: Shape, v: u32, j: usize, rows: &mut [u32; NUMBERS])
+    requires { ⌜ IsRow j ⌝ }
     requires { ⌜ Whole (now rows) ⌝ }
     requires { ⌜ Room shape (rowIn (now rows) j) ⌝ }
     ensures { λ _. ⌜ Takes shape Place.Scan v false j (now (rows .entry)) (now (rows .exit)) ⌝ }
@@ -243,8 +245,8 @@ pub fn scan(shape: Shape, v: u32, j: usize, rows: &mut [u32; 288])
 }
 
 // A process that has decided stays where it is.
-pub fn decided(shape: Shape, j: usize, rows: &mut [u32; 288])
-    requires { ⌜ Inside j ⌝ }
+pub fn decided(shape: Shape, j: usize, rows: &mut [u32; NUMBERS])
+    requires { ⌜ IsRow j ⌝ }
     requires { ⌜ Room shape (rowIn (now rows) j) ⌝ }
     ensures { λ _. ⌜ Takes shape Place.Decided 0 false j (now (rows .entry)) (now (rows .exit)) ⌝ }
 {

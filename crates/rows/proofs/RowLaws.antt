@@ -10,25 +10,36 @@ use lib.Dec.{eqb, ltb}
 use lib.ListN.{length, set, length-set}
 use lib.Seq.{getD-set-same, getD-set-other}
 use Rattle.terms.specs.Limits.{mostProcesses}
-use Rattle.model.specs.declared.Place.{Place}
+use Rattle.terms.specs.Numbers.{slotOf}
 use Rattle.model.specs.declared.Row.{Row}
 use Rattle.model.specs.Routine.{to, on, until, decides, scans, counted, crash}
+use Rattle.model.specs.Places.{placeOf, codeOf}
+use Rattle.model.proofs.Places.{place-of-code}
 use Rattle.rows.specs.Rows.{
-  rowWidth, together, placeField, slotField, ownField, wakeField, scanField, decidedField, movesField, latesField, crashedField,
-  IsRow, Whole, placeOf, codeOf, position, numberAt, rowWith, rowIn, written, added, countedIn, begunIn, Changed, turn
+  rowWidth,
+  together,
+  placeField,
+  slotField,
+  ownField,
+  wakeField,
+  scanField,
+  decidedField,
+  movesField,
+  latesField,
+  crashedField,
+  IsRow,
+  Whole,
+  position,
+  numberAt,
+  rowWith,
+  rowIn,
+  written,
+  added,
+  countedIn,
+  begunIn,
+  Changed,
+  turn,
 }
-
--- a place's code is its own
-pub place-coded : (p : Place) → placeOf (codeOf p) ≡ p
-place-coded Place.Rest = refl
-place-coded Place.Look = refl
-place-coded Place.Put = refl
-place-coded Place.Wait = refl
-place-coded Place.Check = refl
-place-coded Place.Critical = refl
-place-coded Place.Flag = refl
-place-coded Place.Scan = refl
-place-coded Place.Decided = refl
 
 -- a row is its numbers
 pub same-row : (x y : ℕ → ℕ) → ((f : ℕ) → x f ≡ y f) → rowWith x ≡ rowWith y
@@ -100,7 +111,7 @@ lagging n r = record { local = r .local; own = r .own; moves = r .moves; lates =
 
 -- a row with the place, the slot and the value of one that begins
 abbrev pub begun : Row → Row → Row
-begun b r = owning (b .own) (turn (λ x. on (b .local .slot .0) (to (b .local .place) x)) r)
+begun b r = owning (b .own) (turn (λ x. on (b .local .slot) (to (b .local .place) x)) r)
 
 module _ {j : ℕ} {old new : List ℕ} (is : IsRow j) where
   -- as the list that a function promises
@@ -111,9 +122,9 @@ module _ {j : ℕ} {old new : List ℕ} (is : IsRow j) where
   unfolding rowIn
   place-written v = by placeField v (omega arith) (turn (to (placeOf v))) refl
 
-  pub slot-written : (c : ℕ) → new ≡ written old j slotField c → Changed j (turn (on c)) old new
+  pub slot-written : (v : ℕ) → new ≡ written old j slotField v → Changed j (turn (on (slotOf v))) old new
   unfolding rowIn
-  slot-written c = by slotField c (omega arith) (turn (on c)) refl
+  slot-written v = by slotField v (omega arith) (turn (on (slotOf v))) refl
 
   pub wake-written : (w : ℕ) → new ≡ written old j wakeField w → Changed j (turn (until w)) old new
   unfolding rowIn
@@ -150,4 +161,4 @@ module _ {j : ℕ} {old new : List ℕ} (is : IsRow j) where
   pub begin-written : (b : Row) → new ≡ begunIn b j old → Changed j (begun b) old new
   begin-written b e =
       told-as (also (also (place-written is (codeOf (b .local .place)) refl) (slot-written is (b .local .slot .0) refl)) (own-written is (b .own) e))
-      (λ l. rw (place-coded (b .local .place)))
+      (λ l. rw (place-of-code (b .local .place)))

@@ -75,7 +75,7 @@ begins-none u xs =
 
 -- a row that begins is a blank one, but for place, slot and value
 begins-from-blank : (κ : Routine) (j x : ℕ) → begun (begin κ j x) blank ≡ begin κ j x
-begins-from-blank Routine.Lock j x = refl
+begins-from-blank (Routine.Lock how) j x = refl
 begins-from-blank Routine.Plain j x = refl
 begins-from-blank Routine.Fast j x = refl
 

@@ -11,8 +11,8 @@ use Rattle.model.specs.declared.Place.{Place}
 use Rattle.model.specs.declared.Shape.{Shape}
 use Rattle.model.specs.declared.Local.{Local}
 use Rattle.model.specs.declared.Row.{Row}
+use Rattle.model.specs.Places.{codeOf, placeOf}
 use Rattle.model.specs.Routine.{rowAfter}
-use Rattle.model.specs.Report.{shownOf}
 
 -- SIZES, as the constants of src/lib.rt have them
 
@@ -63,21 +63,6 @@ IsRow j = j < mostProcesses
 -- all numbers of all rows
 abbrev pub Whole : List ℕ → Type 0
 Whole s = length s ≡ rowsWidth
-
--- the code of a place, and the place with a code
-abbrev pub codeOf : Place → ℕ
-codeOf p = shownOf p
-
-abbrev pub placeOf : ℕ → Place
-placeOf n =
-    cond (eqb n 0) Place.Rest
-    (cond (eqb n 1) Place.Look
-    (cond (eqb n 2) Place.Put
-    (cond (eqb n 3) Place.Wait
-    (cond (eqb n 4) Place.Check
-    (cond (eqb n 5) Place.Critical
-    (cond (eqb n 6) Place.Flag
-    (cond (eqb n 7) Place.Scan Place.Decided)))))))
 
 -- where number f of row j stands
 abbrev pub position : ℕ → ℕ → ℕ

@@ -1,21 +1,33 @@
 // Rows in place: the numbers of all rows in one list. Each is written by itself, so that a move touches only what it changes.
 ghost use mathlib.Core.Path.{_≡_};
+ghost use Rattle.model.specs.Places.{codeOf, placeOf};
 ghost use Rattle.model.specs.Routine.{routineOf};
 ghost use Rattle.rows.specs.Rows.{
-    placeField, slotField, ownField, wakeField, scanField, decidedField, crashedField,
-    codeOf, placeOf, rowIn, IsRow, written, countedIn, begunIn, Uncounted
+  placeField,
+  slotField,
+  ownField,
+  wakeField,
+  scanField,
+  decidedField,
+  crashedField,
+  rowIn,
+  IsRow,
+  written,
+  countedIn,
+  begunIn,
+  Uncounted,
 };
 use model::Kind;
 use model::Place;
+use model::ROWS;
 use terms::SlotNumber;
-use terms::Trace;
 
 // Sizes and fields. specs/Rows.antt has the same numbers for the prover.
 
 // The numbers of a row, and of all rows.
 const WIDTH: usize = 9;
 
-pub const NUMBERS: usize = WIDTH * Trace::PROCESSES as usize;
+pub const NUMBERS: usize = WIDTH * ROWS;
 
 // The first numbers of a row stand together, those of row j from j * TOGETHER on.
 const TOGETHER: usize = 8;
@@ -39,38 +51,24 @@ const LATES: usize = 7;
 // Each further number stands behind all rows, in a column of its own.
 const CRASHED: usize = 8;
 
-const CRASHED_COLUMN: usize = CRASHED * Trace::PROCESSES as usize;
+const CRASHED_COLUMN: usize = CRASHED * ROWS;
 
 // A place and its code.
 
 fn place_of(n: u32) -> Place
     ensures { λ p. ⌜ p ≡ placeOf n ⌝ }
 {
-    if n == 0 {
-        return Place::Rest;
+    match n {
+        0 => Place::Rest,
+        1 => Place::Look,
+        2 => Place::Put,
+        3 => Place::Wait,
+        4 => Place::Check,
+        5 => Place::Critical,
+        6 => Place::Flag,
+        7 => Place::Scan,
+        _ => Place::Decided,
     }
-    if n == 1 {
-        return Place::Look;
-    }
-    if n == 2 {
-        return Place::Put;
-    }
-    if n == 3 {
-        return Place::Wait;
-    }
-    if n == 4 {
-        return Place::Check;
-    }
-    if n == 5 {
-        return Place::Critical;
-    }
-    if n == 6 {
-        return Place::Flag;
-    }
-    if n == 7 {
-        return Place::Scan;
-    }
-    Place::Decided
 }
 
 fn code(place: Place) -> u32
@@ -211,12 +209,12 @@ pub fn crash(j: usize, rows: &mut [u32; NUMBERS])
 }
 
 // A process that has not moved: its place, its slot, the value that it writes.
-fn unmoved(place: Place, c: u32, own: u32, j: usize, rows: &mut [u32; NUMBERS])
+fn unmoved(place: Place, c: SlotNumber, own: u32, j: usize, rows: &mut [u32; NUMBERS])
     requires { ⌜ IsRow j ⌝ }
     ensures { λ _. ⌜ now (rows .exit) ≡ begunIn (Rattle.model.specs.Routine.unmoved place c own) j (now (rows .entry)) ⌝ }
 {
     rows[j * TOGETHER + PLACE] = code(place);
-    rows[j * TOGETHER + SLOT] = c;
+    rows[j * TOGETHER + SLOT] = c.0;
     rows[j * TOGETHER + OWN] = own;
 }
 
@@ -228,13 +226,13 @@ pub fn begin(kind: Kind, x: u8, j: usize, rows: &mut [u32; NUMBERS])
     let start = x as u32;
     match kind {
         Kind::Lock => {
-            unmoved(Place::Rest, start, j as u32 + 1, j, rows);
+            unmoved(Place::Rest, SlotNumber(start), j as u32 + 1, j, rows);
         }
         Kind::Plain => {
-            unmoved(Place::Look, 0, start, j, rows);
+            unmoved(Place::Look, SlotNumber(0), start, j, rows);
         }
         Kind::Fast => {
-            unmoved(Place::Flag, 0, start, j, rows);
+            unmoved(Place::Flag, SlotNumber(0), start, j, rows);
         }
     }
 }

@@ -1,6 +1,6 @@
 -- `routine::takes::filled` meets its contract.
 -- Assumes nothing.
-use Rattle.routine.proofs.SlotLaws.{slots-filled}
+use Rattle.terms.specs.Numbers.{slotOf}
 use mathlib.Core.Path.{sym, ap, _∙_}
 use Rattle.terms.specs.declared.SlotNumber.{SlotNumber}
 use native.Mathlib.Omega.{arith}
@@ -11,16 +11,28 @@ use Rattle.routine.proofs.takes.filled.Statement.{statement}
 use Rattle.routine.proofs.takes.filled.Tie as tie
 
 add-next : tie.Need-add-next
-add-next c = omega (arith, ap (λ (s : SlotNumber). s .0) (c .before .slot .ensures), c .before .before .pre .1 .1)
+add-next c =
+    let start = c .before .before in
+    omega (arith, ap (λ (s : SlotNumber). s .0) (c .before .slot .ensures), start .pre .1 .1)
 
 returns : tie.Need-returns
-returns c = let u = c .before .before .before .before .args .shape in sym (slots-filled u _ ∙ ap (λ (n : ℕ). n % u .size) (sym (ap (λ (s : SlotNumber). s .0 + 1) (c .before .before .before .slot .ensures))) ∙ mod-eq-of-lt (c .if1 .taken))
+returns c =
+    let found = c .before .before .before in
+    let u = found .before .args .shape in
+    ap slotOf (sym (ap (λ (s : SlotNumber). (s .0 + 1) % u .size) (sym (found .slot .ensures)) ∙ mod-eq-of-lt (c .if1 .taken)))
 
 returns-2 : tie.Need-returns-2
-returns-2 c = let u = c .before .before .before .before .before .before .args .shape in sym (slots-filled u _ ∙ ap (λ (n : ℕ). n % u .size) (sym (ap (λ (s : SlotNumber). s .0 + 1) (c .before .before .before .before .before .slot .ensures)) ∙ c .if2 .taken) ∙ mod-self (u .size))
+returns-2 c =
+    let found = c .before .before .before .before .before in
+    let u = found .before .args .shape in
+    ap slotOf
+    (sym (ap (λ (n : ℕ). n % u .size) (sym (ap (λ (s : SlotNumber). s .0 + 1) (found .slot .ensures)) ∙ c .if2 .taken) ∙ mod-self (u .size)))
 
 returns-3 : tie.Need-returns-3
-returns-3 c = let u = c .before .before .before .before .before .before .before .args .shape in ap (λ (n : ℕ). n % u .size) (ap (λ (s : SlotNumber). s .0 + 1) (c .before .before .before .before .before .before .slot .ensures)) ∙ sym (slots-filled u _)
+returns-3 c =
+    let found = c .before .before .before .before .before .before in
+    let u = found .before .args .shape in
+    ap slotOf (ap (λ (s : SlotNumber). (s .0 + 1) % u .size) (found .slot .ensures))
 
 pub filled-spec : {M : Type 1} → statement M
 filled-spec =

@@ -8,10 +8,14 @@ use Rattle.routine.proofs.takes.scan_from.Statement.{statement}
 use Rattle.routine.proofs.takes.scan_from.Tie as tie
 
 returns : tie.Need-returns
-returns c = told-as (c .scan-at .ensures) (λ l. rw (eq-eqb _ _ (c .before .before .if1 .taken ∙ c .before .before .before .own .ensures)))
+returns c =
+    let asked = c .before .before in
+    told-as (c .scan-at .ensures) (λ l. rw (eq-eqb _ _ (asked .if1 .taken ∙ asked .before .own .ensures)))
 
 returns-2 : tie.Need-returns-2
-returns-2 c = told-as (c .scan-at2 .ensures) (λ l. rw (ne-eqb _ _ (λ e. c .before .before .if1 .left (e ∙ sym (c .before .before .before .own .ensures)))))
+returns-2 c =
+    let asked = c .before .before in
+    told-as (c .scan-at2 .ensures) (λ l. rw (ne-eqb _ _ (λ e. asked .if1 .left (e ∙ sym (asked .before .own .ensures)))))
 
 pub scan-from-spec : {M : Type 1} → statement M
 scan-from-spec =
