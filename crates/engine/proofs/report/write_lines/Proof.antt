@@ -43,8 +43,8 @@ loop-again c =
       omega (arith, turn .if1 .taken),
       search needs,
       c .before .before .write-line .ensures
-      ∙ rw (← row-at rows (l .loop .j) room)
-      (lines-more (routine (start .args .shape)) (rowsIn rows) (l .loop .j) (now (start .args .report)) (l .loop .report) (l .loop .inv .2)),
+          ∙ rw (← row-at rows (l .loop .j) room)
+          (lines-more (routine (start .args .shape)) (rowsIn rows) (l .loop .j) (now (start .args .report)) (l .loop .report) (l .loop .inv .2)),
     )
 
 returns : tie.Need-returns Inv-loop μ-loop

@@ -55,9 +55,16 @@ freshly c =
 take-records-requires : tie.Need-take-records-requires
 take-records-requires c κs =
     let s = start (begun c) in
-    let b = begun c in
-    (s .pre .0, (s .pre .0 .few, (s .pre .1 .1 .0,
-    (b .begin-rows .ensures .0, record { bytes = s .args .starts; starts = s .pre .1 .0; fresh = freshly b }))))
+    let b = begun c in (
+      s .pre .0,
+      (
+        s .pre .0 .few,
+        (
+          s .pre .1 .1 .0,
+          (b .begin-rows .ensures .0, record { bytes = s .args .starts; starts = s .pre .1 .0; fresh = freshly b }),
+        ),
+      ),
+    )
 
 returns : tie.Need-returns
 returns c =

@@ -138,7 +138,7 @@ loop-again c =
     let l = head r in (
       c .take-step .ensures .rows .long ∙ l .loop .inv .0,
       lands (l .loop .inv .1) (r .before .before .loop-test .taken) _ (found r) (a .if1 .left) (start l .pre .1 .0) (j .judge .ensures)
-      (c .before .before .before .before .before .before .if2 .left) (l .loop .inv .0) refl (c .take-step .ensures),
+          (c .before .before .before .before .before .before .if2 .left) (l .loop .inv .0) refl (c .take-step .ensures),
     )
 
 returns-3 : tie.Need-returns-3 Inv-loop μ-loop
