@@ -213,6 +213,6 @@ module _ {u : Shape} {s : State} (point : Point u s) where
       rw (decision-figure (routine u) (rowAt s j .local .place) (reaches j) q (rowAt s j)) (decision-proposed j q)
 
   -- once it has made the most moves, a row that has not crashed shows 8
-  pub shown-done : (most j : ℕ) → Within most (rowAt s j) → rowAt s j .moves ≡ most → shownPlace (rowAt s j) ≢ 9
+  pub shown-done : (bound j : ℕ) → Within bound (rowAt s j) → rowAt s j .moves ≡ bound → shownPlace (rowAt s j) ≢ 9
       → shownPlace (rowAt s j) ≡ 8
-  shown-done most j within e n = decided-shows (rowAt s j) (within .decided e) n
+  shown-done bound j within e n = decided-shows (rowAt s j) (within .decided e) n

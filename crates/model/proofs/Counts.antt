@@ -10,14 +10,13 @@ use borrow.Author.Tests.{eq-eqb, ne-eqb}
 use Rattle.terms.specs.declared.SlotNumber.{SlotNumber}
 use Rattle.terms.specs.Numbers.{processOf, indexOf}
 use Rattle.steps.specs.declared.Step.{Step}
-use Rattle.setups.specs.Setup.{setupFields}
 use Rattle.model.specs.declared.Place.{Place}
 use Rattle.model.specs.declared.Shape.{Shape}
 use Rattle.model.specs.declared.Row.{Row}
 use Rattle.model.specs.declared.State.{State}
 use Rattle.model.specs.Routine.{Routine, routine, crash, unmoved, begin}
 use Rattle.model.specs.Bounds.{Bytes, Sound, Starts}
-use Rattle.model.specs.Run.{rowAt, rowOf, fresh, isMove, after, stepAt, reach, Progress, Progress.going, shapeOf, restOf, startOf, records, runOf}
+use Rattle.model.specs.Run.{rowAt, rowOf, fresh, isMove, after, stepAt, reach, Progress, Progress.going, shape, restOf, startOf, records, runOf}
 use Rattle.model.specs.Counts.{howMany, moveOf, lateIn, movesOf, latesOf}
 use Rattle.model.proofs.RunLaws.{run-going}
 use Rattle.model.proofs.Turns.{rowGone, turn}
@@ -133,9 +132,9 @@ reach-counts u so xs st rest k e j =
     }
 
 -- after an accepted run
-pub run-counts : (trace : List ℕ) (room : ℕ) {s : State} → Bytes trace → runOf trace room ≡ going s
-    → (j : ℕ) → Counted (shapeOf (setupFields trace)) (startOf trace) (restOf trace) (records (restOf trace)) j (rowAt s j)
-run-counts trace room bytes e =
+pub run-counts : (most : ℕ) (trace : List ℕ) (room : ℕ) {s : State} → Bytes trace → runOf most trace room ≡ going s
+    → (j : ℕ) → Counted (shape trace) (startOf most trace) (restOf trace) (records (restOf trace)) j (rowAt s j)
+run-counts most trace room bytes e =
     let both = run-going _ _ _ _ e in
-    let setup = run-said trace room (both .0) .setup in
-    reach-counts _ (setup-sound trace setup bytes) _ (setup-starts trace setup) (restOf trace) _ (both .1)
+    let setup = run-said most trace room (both .0) .setup in
+    reach-counts _ (setup-sound most trace setup bytes) _ (setup-starts most trace setup) (restOf trace) _ (both .1)

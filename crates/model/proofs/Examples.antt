@@ -3,6 +3,7 @@
 use mathlib.Core.Path.{_≡_, refl}
 use mathlib.Core.List.{map}
 use lib.ListN.{replicate}
+use Rattle.terms.specs.Limits.{mostProcesses}
 use Rattle.bank.specs.Registers.{afterRead, afterWrite}
 use Rattle.setups.specs.Setup.{badKind, badSize, badStart, setupRefusal}
 use Rattle.steps.specs.Step.{stepRefusal}
@@ -11,7 +12,7 @@ use Rattle.model.specs.Report.{line, lines, reportOf, outcomeOf, Ran, ra
 use Rattle.model.specs.Traces.{Case, cases}
 
 abbrev ran : Case → Ran
-ran c = ranOf (c .trace) (replicate 9 7)
+ran c = ranOf mostProcesses (c .trace) (replicate 9 7)
 
 abbrev said : Case → Ran
 said c = record { outcome = record { number = c .number; at = c .at }; report = c .report }
