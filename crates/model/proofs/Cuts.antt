@@ -47,7 +47,7 @@ module _ (m : ℕ) (s : List ℕ) (h : 8 ≤ m) where
 
   record-cut : (u : Shape) (x : State) → recordRefusal u x (take m s) ≡ recordRefusal u x s
   unfolding recordRefusal
-  record-cut u x = ap₂ (λ (n : ℕ) (k : Step). n then judge u (rowOf x (k .process)) (x .last) k) (step-cut (u .count)) fields-cut
+  record-cut u x = ap₂ (λ (n : ℕ) (k : Step). n then judge u (rowOf x (k .process)) (x .newest) k) (step-cut (u .count)) fields-cut
 
 -- the first k records of bytes that are cut after them or later
 pub reach-cut : (u : Shape) (x : State) (rest : List ℕ) (m k : ℕ) → k * 8 ≤ m → reach u x (take m rest) k ≡ reach u x rest k

@@ -150,7 +150,7 @@ module _ (first : ℕ) (tape : Tape) (x : State) (n : ℕ) where
 
 -- what the state says to the record at the front of bytes
 abbrev pub judgeAt : Shape → State → List ℕ → ℕ
-judgeAt u s bytes = judge u (rowOf s (stepFields bytes .process)) (s .last) (stepFields bytes)
+judgeAt u s bytes = judge u (rowOf s (stepFields bytes .process)) (s .newest) (stepFields bytes)
 
 -- what is kept by each accepted record of these bytes
 abbrev pub Keeps : Shape → List ℕ → (ℕ → State → Type 0) → Type 0

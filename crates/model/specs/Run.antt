@@ -59,7 +59,7 @@ fresh u starts =
       rows = startRows u 0 starts;
       bank = freshBankOf (length starts);
       shared = record { flags = replicate flagCount false };
-      last = 0;
+      newest = 0;
     }
 
 -- A MOVE of process i at tick t, at place p; and a crash
@@ -72,7 +72,7 @@ moveAt u p s i t =
       rows = set (s .rows) (indexOf i) (rowAfter u p (wakeAt (u .delta) t) r (reply (s .bank) (s .shared) i t q));
       bank = bankAfter (s .bank) i t q;
       shared = sharedAfter (s .shared) q;
-      last = t;
+      newest = t;
     }
 
 abbrev pub move : Shape → State → ProcessNumber → ℕ → State
@@ -80,7 +80,7 @@ move u s i t = moveAt u (rowOf s i .local .place) s i t
 
 unfoldable pub stop : State → ProcessNumber → ℕ → State
 stop s i t =
-    record { rows = set (s .rows) (indexOf i) (crash (rowOf s i)); bank = s .bank; shared = s .shared; last = t }
+    record { rows = set (s .rows) (indexOf i) (crash (rowOf s i)); bank = s .bank; shared = s .shared; newest = t }
 
 -- A RECORD
 
@@ -100,7 +100,7 @@ judge u r newest k =
 
 -- 9 to 16, of the record at the beginning of s
 unfoldable pub recordRefusal : Shape → State → List ℕ → ℕ
-recordRefusal u x s = stepRefusal (u .count) s then judge u (rowOf x (stepFields s .process)) (x .last) (stepFields s)
+recordRefusal u x s = stepRefusal (u .count) s then judge u (rowOf x (stepFields s .process)) (x .newest) (stepFields s)
 
 -- A TRACE: the state that the records so far left, or the first refusal and its record
 
