@@ -19,13 +19,13 @@ use Rattle.model.specs.declared.Place.{Place}
 use Rattle.model.specs.declared.Shape.{Shape}
 use Rattle.model.specs.declared.Row.{Row}
 use Rattle.model.specs.declared.State.{State}
+use Rattle.model.specs.Places.{codeOf}
 use Rattle.model.specs.Routine.{Routine, routine, begin}
 use Rattle.model.specs.Bounds.{Sound, Starts}
-use Rattle.model.specs.Run.{rowAt, rowOf, fresh, moveAt, reach, Progress.going}
-use Rattle.model.specs.Counts.{stepAt}
+use Rattle.model.specs.Run.{rowAt, rowOf, fresh, moveAt, stepAt, reach, Progress.going}
 use Rattle.model.specs.Claims.{Within}
 use Rattle.model.specs.Report.{shownPlace, figureOf}
-use Rattle.model.proofs.Places.{imply, differ, codeOf, inKind, timedDecision, settled, past, inside}
+use Rattle.model.proofs.Places.{imply, differ, inKind, timedDecision, settled, past, inside}
 use Rattle.model.proofs.World.{World, ordinary, clock}
 use Rattle.model.proofs.LockSafe.{LockInv, exclusion, exit-in-time}
 use Rattle.model.proofs.DecideSafe.{DecideInv, agreement}
@@ -34,7 +34,7 @@ use Rattle.model.proofs.Keeping.{slot-small, fresh-rows, each-kept}
 use Rattle.model.proofs.View.{view}
 use Rattle.model.proofs.Invariants.{Inv, Along, nothing, Good, Bare, reach-good}
 use Rattle.model.proofs.Shown.{shows-inside, shows-decided, decided-shows}
-use Rattle.model.proofs.Tally.{Proposer, Proposed, proposed-along, proposed-start, Cap, Capped, capped-along, capped-start, plain-within, fast-within}
+use Rattle.model.proofs.Tally.{Proposer, HasProposer, proposed-along, proposed-start, Cap, Capped, capped-along, capped-start, plain-within, fast-within}
 
 -- THE KIND, from a place
 
@@ -48,13 +48,13 @@ either false b h = absurd h
 
 -- only the lock has a section, and only it does not decide
 lock-inv : (κ : Routine) (u : Shape) (w : World) (p : Place) → T (reachable κ p) → T (inside p) → Inv ordinary κ u w → LockInv (clock ordinary (u .delta)) w
-lock-inv Routine.Lock u w p a b inv = inv
+lock-inv (Routine.Lock how) u w p a b inv = inv
 lock-inv Routine.Plain u w p a b inv = absurd (differ (reachable Routine.Plain) inside tt p a b)
 lock-inv Routine.Fast u w p a b inv = absurd (differ (reachable Routine.Fast) inside tt p a b)
 
 decide-inv : (κ : Routine) (u : Shape) (w : World) (p : Place) → T (reachable κ p) → T (settled p) → Inv ordinary κ u w
     → T (timedDecision κ) × DecideInv (clock ordinary (u .delta)) w
-decide-inv Routine.Lock u w p a b inv = absurd (differ (reachable Routine.Lock) settled tt p a b)
+decide-inv (Routine.Lock how) u w p a b inv = absurd (differ (reachable (Routine.Lock how)) settled tt p a b)
 decide-inv Routine.Plain u w p a b inv = (tt, inv)
 decide-inv Routine.Fast u w p a b inv = (tt, inv .decide)
 
@@ -63,18 +63,18 @@ settled-past = imply settled past tt
 
 -- what a process of a decision writes is its start byte
 own-begins : (κ : Routine) (j x : ℕ) → T (timedDecision κ) → begin κ j x .own ≡ x
-own-begins Routine.Lock j x h = absurd h
+own-begins (Routine.Lock how) j x h = absurd h
 own-begins Routine.Plain j x h = refl
 own-begins Routine.Fast j x h = refl
 
 -- the second number of the report is the slot, or the decided value
 slot-figure : (κ : Routine) (p : Place) → T (reachable κ p) → T (inside p) → (r : Row) → figureOf κ r ≡ r .local .slot .0
-slot-figure Routine.Lock p a b r = refl
+slot-figure (Routine.Lock how) p a b r = refl
 slot-figure Routine.Plain p a b r = absurd (differ (reachable Routine.Plain) inside tt p a b)
 slot-figure Routine.Fast p a b r = absurd (differ (reachable Routine.Fast) inside tt p a b)
 
 decision-figure : (κ : Routine) (p : Place) → T (reachable κ p) → T (settled p) → (r : Row) → figureOf κ r ≡ r .local .decided
-decision-figure Routine.Lock p a b r = absurd (differ (reachable Routine.Lock) settled tt p a b)
+decision-figure (Routine.Lock how) p a b r = absurd (differ (reachable (Routine.Lock how)) settled tt p a b)
 decision-figure Routine.Plain p a b r = refl
 decision-figure Routine.Fast p a b r = refl
 
@@ -95,14 +95,14 @@ module _ {u : Shape} {s : State} (point : Point u s) where
   xs = point .bytes
 
   -- a further property of the run holds here
-  along : (P : World → Type 0) → Along ordinary u P → ((w : World) → Bare (routine u) w → P w) → P (view (s .last) s)
+  along : (P : World → Type 0) → Along ordinary u P → ((w : World) → Bare (routine u) w → P w) → P (view (s .newest) s)
   along P al first = reach-good u so P al xs (point .starts) first (point .rest) (point .k) (point .led) .also
 
-  abbrev good : Good ordinary u so (λ w. Unit {0}) (nothing ordinary u) (s .last) s
+  abbrev good : Good ordinary u so (λ w. Unit {0}) (nothing ordinary u) (s .newest) s
   good = reach-good u so (λ w. Unit {0}) (nothing ordinary u) xs (point .starts) (λ w bare. tt) (point .rest) (point .k) (point .led)
 
   abbrev seen : World
-  seen = view (s .last) s
+  seen = view (s .newest) s
 
   reaches : (j : ℕ) → T (reachable (routine u) (rowAt s j .local .place))
   reaches j = by (decLt j (u .count))
@@ -112,7 +112,7 @@ module _ {u : Shape} {s : State} (point : Point u s) where
       by (no h) = rw (good .kept .beyond j (omega arith)) (blank-reaches (routine u))
         where
           blank-reaches : (κ : Routine) → T (reachable κ Place.Rest)
-          blank-reaches Routine.Lock = tt
+          blank-reaches (Routine.Lock how) = tt
           blank-reaches Routine.Plain = tt
           blank-reaches Routine.Fast = tt
 
@@ -156,14 +156,14 @@ module _ {u : Shape} {s : State} (point : Point u s) where
 
     proposer : Proposer (u .count) (rowAt s j .local .decided) (seen .seat)
     proposer =
-        let p = along (Proposed (u .count)) (proposed-along ordinary u (of-decision .0)) (proposed-start u) in
+        let p = along (HasProposer (u .count)) (proposed-along ordinary u (of-decision .0)) (proposed-start u) in
         rw (of-decision .1 .settled j a .stands) (p (of-decision .1 .filled j (settled-past (rowAt s j .local .place) a)))
 
     own-stays : (i : ℕ) → rowAt s i .own ≡ rowAt (fresh u xs) i .own
     own-stays =
         each-kept u so xs (point .starts) (point .rest) (λ k s. (i : ℕ) → rowAt s i .own ≡ rowAt (fresh u xs) i .own) (λ i. refl)
         (λ k s e kt ad old.
-        turn u s (stepAt (point .rest) k) (omega (arith, kt .rows, ad .inside, so .few)) (λ i r. r .own ≡ rowAt (fresh u xs) i .own) (λ i n. old i) (λ b. old _)
+        turn u s (stepAt (point .rest) k) (omega (arith, kt .rows, ad .inside)) (λ i r. r .own ≡ rowAt (fresh u xs) i .own) (λ i n. old i) (λ b. old _)
         (λ b. old _))
         (point .k) (point .led) .1
 
@@ -213,6 +213,6 @@ module _ {u : Shape} {s : State} (point : Point u s) where
       rw (decision-figure (routine u) (rowAt s j .local .place) (reaches j) q (rowAt s j)) (decision-proposed j q)
 
   -- once it has made the most moves, a row that has not crashed shows 8
-  pub shown-done : (most j : ℕ) → Within most (rowAt s j) → rowAt s j .moves ≡ most → shownPlace (rowAt s j) ≢ 9
+  pub shown-done : (bound j : ℕ) → Within bound (rowAt s j) → rowAt s j .moves ≡ bound → shownPlace (rowAt s j) ≢ 9
       → shownPlace (rowAt s j) ≡ 8
-  shown-done most j within e n = decided-shows (rowAt s j) (within .decided e) n
+  shown-done bound j within e n = decided-shows (rowAt s j) (within .decided e) n

@@ -7,17 +7,17 @@ use mathlib.Core.Bool.{Bool, true, false, cond, _&&_}
 use mathlib.Core.List.{List}
 use native.Mathlib.Omega.{arith}
 use borrow.Author.Tests.{eq-eqb, ne-eqb}
+use Rattle.terms.specs.declared.SlotNumber.{SlotNumber}
 use Rattle.terms.specs.Numbers.{processOf, indexOf}
 use Rattle.steps.specs.declared.Step.{Step}
-use Rattle.setups.specs.Setup.{setupFields}
 use Rattle.model.specs.declared.Place.{Place}
 use Rattle.model.specs.declared.Shape.{Shape}
 use Rattle.model.specs.declared.Row.{Row}
 use Rattle.model.specs.declared.State.{State}
 use Rattle.model.specs.Routine.{Routine, routine, crash, unmoved, begin}
 use Rattle.model.specs.Bounds.{Bytes, Sound, Starts}
-use Rattle.model.specs.Run.{rowAt, rowOf, fresh, isMove, after, reach, Progress, Progress.going, shapeOf, restOf, startOf, records, runOf}
-use Rattle.model.specs.Counts.{howMany, stepAt, moveOf, lateIn, movesOf, latesOf}
+use Rattle.model.specs.Run.{rowAt, rowOf, fresh, isMove, after, stepAt, reach, Progress, Progress.going, shape, restOf, startOf, records, runOf}
+use Rattle.model.specs.Counts.{howMany, moveOf, wroteLate, movesOf, latesOf}
 use Rattle.model.proofs.RunLaws.{run-going}
 use Rattle.model.proofs.Turns.{rowGone, turn}
 use Rattle.model.proofs.Keeping.{Kept, Admitted, fresh-rows, each-kept}
@@ -25,7 +25,7 @@ use Rattle.model.proofs.SetupSays.{run-said, setup-sound, setup-starts}
 
 -- A COLUMN of the rows that begins at 0, keeps through a crash, and grows by one at each move that passes the test
 pub record Column (u : Shape) (f : Row → ℕ) (test : Progress → Step → Bool) : Type 0 where
-  pub begins : (p : Place) (c v : ℕ) → f (unmoved p c v) ≡ 0
+  pub begins : (p : Place) (c : SlotNumber) (v : ℕ) → f (unmoved p c v) ≡ 0
   pub stops : (r : Row) → f (crash r) ≡ f r
   pub goes : (s : State) (k : Step) → f (rowGone u s k) ≡ f (rowOf s (k .process)) + cond (test (going s) k) 1 0
 
@@ -59,7 +59,7 @@ one-fewer false b = omega arith
 
 module _ (u : Shape) (f : Row → ℕ) (test : Progress → Step → Bool) (c : Column u f test) where
   begins-at : (κ : Routine) (j x : ℕ) → f (begin κ j x) ≡ 0
-  begins-at Routine.Lock j x = c .begins _ _ _
+  begins-at (Routine.Lock how) j x = c .begins _ _ _
   begins-at Routine.Plain j x = c .begins _ _ _
   begins-at Routine.Fast j x = c .begins _ _ _
 
@@ -74,7 +74,7 @@ module _ (u : Shape) (f : Row → ℕ) (test : Progress → Step → Bool) (c : 
     one-more k s e kt ad so-far =
         let here = stepAt rest k in
         let i = indexOf (here .process) in
-        turn u s here (omega (arith, kt .rows, ad .inside, so .few)) (λ j r. f r ≡ tallyOf j (suc k))
+        turn u s here (omega (arith, kt .rows, ad .inside)) (λ j r. f r ≡ tallyOf j (suc k))
         (λ j n. omega (arith, so-far j, uncounted (test (reach u (fresh u xs) rest k) here) _ (others-move here (ad .process) j n)))
         (λ b. omega (arith, so-far i, c .stops (rowAt s i), uncounted (test (reach u (fresh u xs) rest k) here) _ (own-move here (ad .process) ∙ b)))
         (λ b.
@@ -107,7 +107,7 @@ how-many-fewer further test (suc k) = omega (arith, how-many-fewer further test 
 moves-column : (u : Shape) → Column u (λ r. r .moves) (λ p k. true)
 moves-column u = record { begins = λ p c v. refl; stops = λ r. refl; goes = λ s k. refl }
 
-lates-column : (u : Shape) → Column u (λ r. r .lates) (lateIn u)
+lates-column : (u : Shape) → Column u (λ r. r .lates) (wroteLate u)
 lates-column u = record { begins = λ p c v. refl; stops = λ r. refl; goes = λ s k. refl }
 
 -- row j after k records of these bytes, from the state x
@@ -122,19 +122,19 @@ pub reach-counts : (u : Shape) → Sound u → (xs : List ℕ) → Starts u xs �
     → (j : ℕ) → Counted u (fresh u xs) rest k j (rowAt s j)
 reach-counts u so xs st rest k e j =
     let moves = tally u (λ r. r .moves) (λ p k. true) (moves-column u) so xs st rest k e j in
-    let lates = tally u (λ r. r .lates) (lateIn u) (lates-column u) so xs st rest k e j in
+    let lates = tally u (λ r. r .lates) (wroteLate u) (lates-column u) so xs st rest k e j in
     let mine : ℕ → Bool = λ i. moveOf (processOf (j + 1)) (stepAt rest i) in
     record {
       moves = moves;
       lates = lates;
-      fewer = omega (arith, moves, lates, how-many-fewer (λ i. lateIn u (reach u (fresh u xs) rest i) (stepAt rest i)) mine k);
+      fewer = omega (arith, moves, lates, how-many-fewer (λ i. wroteLate u (reach u (fresh u xs) rest i) (stepAt rest i)) mine k);
       within = omega (arith, moves, how-many-within mine k);
     }
 
 -- after an accepted run
-pub run-counts : (trace : List ℕ) (room : ℕ) {s : State} → Bytes trace → runOf trace room ≡ going s
-    → (j : ℕ) → Counted (shapeOf (setupFields trace)) (startOf trace) (restOf trace) (records (restOf trace)) j (rowAt s j)
-run-counts trace room bytes e =
-    let both = run-going trace room e in
-    let setup = run-said trace room (both .0) .setup in
-    reach-counts _ (setup-sound trace setup bytes) _ (setup-starts trace setup) (restOf trace) _ (both .1)
+pub run-counts : (most : ℕ) (trace : List ℕ) (room : ℕ) {s : State} → Bytes trace → runOf most trace room ≡ going s
+    → (j : ℕ) → Counted (shape trace) (startOf most trace) (restOf trace) (records (restOf trace)) j (rowAt s j)
+run-counts most trace room bytes e =
+    let both = run-going _ _ _ _ e in
+    let setup = run-said most trace room (both .0) .setup in
+    reach-counts _ (setup-sound most trace setup bytes) _ (setup-starts most trace setup) (restOf trace) _ (both .1)

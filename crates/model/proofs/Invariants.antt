@@ -6,11 +6,11 @@ use mathlib.Core.Bool.{Bool, false}
 use mathlib.Core.List.{List}
 use native.Mathlib.Omega.{arith}
 use lib.Dec.{T}
-use lib.ListN.{getD, replicate}
+use lib.ListN.{length, getD, replicate}
 use Rattle.terms.specs.declared.ProcessNumber.{ProcessNumber}
-use Rattle.terms.specs.Limits.{topTick, unlimited}
-use Rattle.terms.specs.Numbers.{indexOf}
-use Rattle.bank.specs.Registers.{freshBank}
+use Rattle.terms.specs.declared.SlotNumber.{SlotNumber}
+use Rattle.terms.specs.Limits.{mostSlots, topTick, unlimited}
+use Rattle.terms.specs.Numbers.{indexOf, slotOf}
 use Rattle.steps.specs.declared.Step.{Step}
 use Rattle.steps.specs.Step.{stepFields}
 use Rattle.model.specs.declared.Place.{Place}
@@ -19,24 +19,25 @@ use Rattle.model.specs.declared.Row.{Row}
 use Rattle.model.specs.declared.Reply.{Reply}
 use Rattle.model.specs.declared.State.{State}
 use Rattle.model.specs.Time.{wakeAt}
-use Rattle.model.specs.Routine.{Routine, routine, askAt, told, counted, crash, slots, nextOf, unmoved, begin, isDecided}
+use Rattle.model.specs.Routine.{Routine, routine, askAt, told, counted, crash, slotsOf, nextOf, unmoved, begin, isDecided}
 use Rattle.model.specs.Memory.{reply}
 use Rattle.model.specs.Bounds.{Sound, Starts}
-use Rattle.model.specs.Run.{rowAt, rowOf, fresh, move, stop, after, reach, Progress.going}
+use Rattle.model.specs.Sizes.{flagCount}
+use Rattle.model.specs.Run.{rowAt, rowOf, fresh, move, stop, after, stepTape, reach, Progress.going}
 use Rattle.model.proofs.Places.{differ, begins, putting, scanning, raised, settled, checking, past, inside}
 use Rattle.model.proofs.World.{Commons, World, Pace, ordinary, clock, Moves, moved, crashed, slotAt, ownOf}
 use Rattle.model.proofs.LockSafe.{LockInv, lock-moves, lock-crashes}
 use Rattle.model.proofs.DecideSafe.{DecideInv, plain-moves, decide-crashes}
 use Rattle.model.proofs.FastSafe.{FastDecideInv, fast-moves, fast-crashes}
 use Rattle.model.proofs.RunLaws.{recordAt, each-record}
-use Rattle.model.proofs.Turns.{move-or-stop, last-after}
+use Rattle.model.proofs.Turns.{move-or-stop, newest-after}
 use Rattle.model.proofs.Keeping.{RowOk, slot-small, Kept, kept-move, kept-stop, kept-fresh, fresh-rows, Admitted, admitted}
 use Rattle.model.proofs.Rooms.{ask-fits}
 use Rattle.model.proofs.View.{view, Shaped, Mobile, sees, sees-stop}
 
 -- the invariant of each routine
 abbrev pub Inv : Pace → Routine → Shape → World → Type 0
-Inv c Routine.Lock u w = LockInv (clock c (u .delta)) w
+Inv c (Routine.Lock how) u w = LockInv (clock c (u .delta)) w
 Inv c Routine.Plain u w = DecideInv (clock c (u .delta)) w
 Inv c Routine.Fast u w = FastDecideInv (clock c (u .delta)) (u .size) w
 
@@ -57,8 +58,8 @@ afterMove c κ u w m t l p b x v g d =
 inv-moves : (c : Pace) (κ : Routine) (u : Shape) (w : World) (m t : ℕ) (l : Bool) {p : Place} {b : Bool} {x : ℕ} {v : ℕ → ℕ} {g : Commons} {d : ℕ}
     → m < u .count → Free c (w .seat m .row) t → w .floor ≤ t → t < unlimited → w .seat m .row .local .place ≡ p → RowOk κ u m (w .seat m .row)
     → Moves (clock c (u .delta)) w m t p b x v g d → Inv c κ u w → Inv c κ u (afterMove c κ u w m t l p b x v g d)
-inv-moves c Routine.Lock u w m t l h free later short e ok rule inv =
-    lock-moves (clock c (u .delta)) w m t (slots u (w .seat m .row .local)) l later short (free .awake) (ok .own h) e (rw e at (ok .place h)) rule inv
+inv-moves c (Routine.Lock how) u w m t l h free later short e ok rule inv =
+    lock-moves (clock c (u .delta)) w m t (slotsOf how u (w .seat m .row .local)) l later short (free .awake) (ok .own h) e (rw e at (ok .place h)) rule inv
 inv-moves c Routine.Plain u w m t l h free later short e ok rule inv =
     plain-moves (clock c (u .delta)) w m t l later (free .awake) (ok .slot) (λ z. omega (arith, ok .own h)) e (rw e at (ok .place h)) rule inv
 inv-moves c Routine.Fast u w m t l h free later short e ok rule inv =
@@ -66,7 +67,7 @@ inv-moves c Routine.Fast u w m t l h free later short e ok rule inv =
 
 inv-crashes : (c : Pace) (κ : Routine) (u : Shape) (w : World) (m t : ℕ) → w .floor ≤ t → Inv c κ u w
     → Inv c κ u (crashed w m (crash (w .seat m .row)) (c .next t))
-inv-crashes c Routine.Lock u w m t later inv = lock-crashes (clock c (u .delta)) w m t later inv
+inv-crashes c (Routine.Lock how) u w m t later inv = lock-crashes (clock c (u .delta)) w m t later inv
 inv-crashes c Routine.Plain u w m t later inv = decide-crashes (clock c (u .delta)) w m t later inv
 inv-crashes c Routine.Fast u w m t later inv = fast-crashes (clock c (u .delta)) (u .size) w m t later inv
 
@@ -83,10 +84,9 @@ nothing c u = record { on-move = λ w m t l h e q ok inv rule z. tt; on-crash = 
 
 -- ONE RECORD, of the bench
 
-shaped : (u : Shape) (s : State) → Sound u → Kept u s → Shaped s
+pub shaped : (u : Shape) (s : State) → Sound u → Kept u s → Shaped s
 shaped u s so kt =
     record {
-      rows = kt .rows;
       values = kt .values;
       deadlines = kt .deadlines;
       flags = kt .flags;
@@ -116,8 +116,8 @@ module _ (c : Pace) (u : Shape) (so : Sound u) (P : World → Type 0) (al : Alon
     pub also : P (view f s)
 
   module _ (f : ℕ) (s : State) (good : Good f s) (i : ProcessNumber) (t : ℕ) (h : indexOf i < u .count) (later : f ≤ t) where
-    few : indexOf i < 32
-    few = omega (arith, so .few)
+    few : indexOf i < length (s .rows)
+    few = omega (arith, good .kept .rows)
 
     pub good-move : t ≤ topTick → Free c (rowOf s i) t → Good (c .next t) (move u s i t)
     good-move top free =
@@ -162,12 +162,12 @@ pub record Bare (κ : Routine) (w : World) : Type 0 where
   pub rows : (j : ℕ) → Unmoved κ (w .seat j .row)
 
 inv-start : (c : Pace) (κ : Routine) (u : Shape) (w : World) → Bare κ w → ((j : ℕ) → RowOk κ u j (w .seat j .row)) → Inv c κ u w
-inv-start c Routine.Lock u w bare ok =
+inv-start c (Routine.Lock how) u w bare ok =
     record {
       holds = λ i c e. absurd (omega (arith, bare .value c));
-      inside = λ i a. absurd (differ (begins Routine.Lock) inside tt (w .seat i .row .local .place) (bare .rows i .place) a);
+      inside = λ i a. absurd (differ (begins (Routine.Lock how)) inside tt (w .seat i .row .local .place) (bare .rows i .place) a);
       waited = λ i a e. absurd (omega (arith, bare .value (slotAt (w .seat i))));
-      bound = λ j a. absurd (differ (begins Routine.Lock) putting tt (w .seat j .row .local .place) (bare .rows j .place) a);
+      bound = λ j a. absurd (differ (begins (Routine.Lock how)) putting tt (w .seat j .row .local .place) (bare .rows j .place) a);
     }
 inv-start c Routine.Plain u w bare ok =
     record {
@@ -199,27 +199,27 @@ inv-start c Routine.Fast u w bare ok =
           };
     }
 
-unmoved-as : (κ : Routine) (p : Place) (c v : ℕ) → T (begins κ p) → Unmoved κ (unmoved p c v)
+unmoved-as : (κ : Routine) (p : Place) (c : SlotNumber) (v : ℕ) → T (begins κ p) → Unmoved κ (unmoved p c v)
 unmoved-as κ p c v h = record { place = h; wake = refl; moves = refl; lates = refl }
 
 unmoved-begin : (κ : Routine) (j x : ℕ) → Unmoved κ (begin κ j x)
-unmoved-begin Routine.Lock j x = unmoved-as Routine.Lock Place.Rest x (j + 1) tt
-unmoved-begin Routine.Plain j x = unmoved-as Routine.Plain Place.Look 0 x tt
-unmoved-begin Routine.Fast j x = unmoved-as Routine.Fast Place.Flag 0 x tt
+unmoved-begin (Routine.Lock how) j x = unmoved-as (Routine.Lock how) Place.Rest (slotOf x) (j + 1) tt
+unmoved-begin Routine.Plain j x = unmoved-as Routine.Plain Place.Look (slotOf 0) x tt
+unmoved-begin Routine.Fast j x = unmoved-as Routine.Fast Place.Flag (slotOf 0) x tt
 
 replicate-all : {A : Type 0} (n j : ℕ) (a : A) → getD (replicate n a) j a ≡ a
 replicate-all zero j a = refl
 replicate-all (suc n) zero a = refl
 replicate-all (suc n) (suc j) a = replicate-all n j a
 
-bare-fresh : (u : Shape) → Sound u → (xs : List ℕ) → Starts u xs → (f : ℕ) → Bare (routine u) (view f (fresh u xs))
-unfolding fresh freshBank
+pub bare-fresh : (u : Shape) → Sound u → (xs : List ℕ) → Starts u xs → (f : ℕ) → Bare (routine u) (view f (fresh u xs))
+unfolding fresh
 bare-fresh u so xs st f =
     record {
-      value = λ c. replicate-all 8 c 0;
-      flag = λ v. replicate-all 9 v false;
+      value = λ c. replicate-all mostSlots c 0;
+      flag = λ v. replicate-all flagCount v false;
       rows =
-          fresh-rows u so xs st (λ j r. Unmoved (routine u) r) (λ j h. unmoved-as (routine u) Place.Rest 0 0 tt)
+          fresh-rows u so xs st (λ j r. Unmoved (routine u) r) (λ j h. unmoved-as (routine u) Place.Rest (slotOf 0) 0 tt)
           (λ j h ok. unmoved-begin (routine u) j (getD xs j 0));
     }
 
@@ -227,25 +227,25 @@ bare-fresh u so xs st f =
 
 -- whatever its records are, as long as they are accepted: the state that they lead to keeps the invariant, and the further property
 module _ (u : Shape) (so : Sound u) (P : World → Type 0) (al : Along ordinary u P) where
-  good-record : (s : State) (k : Step) → Admitted u s k → Good ordinary u so P al (s .last) s → Good ordinary u so P al (k .tick) (after u s k)
+  good-record : (s : State) (k : Step) → Admitted u s k → Good ordinary u so P al (s .newest) s → Good ordinary u so P al (k .tick) (after u s k)
   good-record s k ad good =
       move-or-stop u s k (Good ordinary u so P al (k .tick))
       (λ e.
-      good-move ordinary u so P al (s .last) s good (k .process) (k .tick) (ad .inside) (ad .later) (ad .top)
+      good-move ordinary u so P al (s .newest) s good (k .process) (k .tick) (ad .inside) (ad .later) (ad .top)
       (record { undecided = ad .unsettled e; awake = ad .awake e }))
-      (λ e. good-stop ordinary u so P al (s .last) s good (k .process) (k .tick) (ad .inside) (ad .later))
+      (λ e. good-stop ordinary u so P al (s .newest) s good (k .process) (k .tick) (ad .inside) (ad .later))
 
   module _ (xs : List ℕ) (st : Starts u xs) (first : (w : World) → Bare (routine u) w → P w) where
-    good-fresh : Good ordinary u so P al (fresh u xs .last) (fresh u xs)
+    good-fresh : Good ordinary u so P al (fresh u xs .newest) (fresh u xs)
     good-fresh =
         let kt = kept-fresh u so xs st in
-        let bare = bare-fresh u so xs st (fresh u xs .last) in
+        let bare = bare-fresh u so xs st (fresh u xs .newest) in
         record { kept = kt; inv = inv-start ordinary (routine u) u _ bare (kt .each); also = first _ bare }
 
-    pub reach-good : (rest : List ℕ) (k : ℕ) {s : State} → reach u (fresh u xs) rest k ≡ going s → Good ordinary u so P al (s .last) s
+    pub reach-good : (rest : List ℕ) (k : ℕ) {s : State} → reach u (fresh u xs) rest k ≡ going s → Good ordinary u so P al (s .newest) s
     reach-good rest =
-        each-record u (fresh u xs) rest (λ k s. Good ordinary u so P al (s .last) s) good-fresh
+        each-record (stepTape u rest) (fresh u xs) (λ k s. Good ordinary u so P al (s .newest) s) good-fresh
         (λ k s e good.
         let bytes : List ℕ = recordAt rest k in
-        subst (λ (f : ℕ). Good ordinary u so P al f (after u s (stepFields bytes))) (sym (last-after u s (stepFields bytes)))
+        subst (λ (f : ℕ). Good ordinary u so P al f (after u s (stepFields bytes))) (sym (newest-after u s (stepFields bytes)))
         (good-record s (stepFields bytes) (admitted u s bytes e) good))

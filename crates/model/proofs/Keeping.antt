@@ -1,6 +1,6 @@
 -- What every state of a run keeps: the lengths of its lists, and each row as its routine has it.
 -- Assumes nothing.
-use Prim.Native.Nat.{ℕ, zero, suc, _+_, _≤_, _<_}
+use Prim.Native.Nat.{ℕ, zero, suc, _+_, _*_, _≤_, _<_}
 use mathlib.Core.Path.{_≡_, refl, ap, _∙_}
 use mathlib.Core.Bool.{Bool, true, false, cond}
 use mathlib.Core.List.{List, [], _∷_}
@@ -9,11 +9,11 @@ use native.Mathlib.Nat.{add-zero, add-suc, suc-add, zero-add}
 use lib.Dec.{ltb}
 use lib.ListN.{length, getD, set, length-set, length-replicate, List·getD-eq-default}
 use borrow.Author.Tests.{ltb-true, ltb-false}
-use Rattle.terms.specs.Limits.{unlimited}
+use Rattle.terms.specs.Limits.{mostSlots, unlimited}
 use Rattle.terms.specs.declared.ProcessNumber.{ProcessNumber}
 use Rattle.terms.specs.Numbers.{indexOf}
 use Rattle.bank.specs.declared.Bank.{Bank}
-use Rattle.bank.specs.Registers.{freshBank, lateAt, afterRead, afterWrite}
+use Rattle.bank.specs.Registers.{lateAt, afterRead, afterWrite}
 use Rattle.steps.specs.declared.Step.{Step}
 use Rattle.model.specs.declared.Shape.{Shape}
 use Rattle.model.specs.declared.Row.{Row}
@@ -25,19 +25,19 @@ use Rattle.model.specs.Time.{wakeAt}
 use Rattle.model.specs.Routine.{routine, askAt, begin}
 use Rattle.model.specs.Memory.{reply, bankAfter, sharedAfter}
 use Rattle.model.specs.Bounds.{Sound, startOk, Starts}
-use Rattle.model.specs.Run.{rowAt, rowOf, blank, startRow, startRows, fresh, move, moveAt, stop, after, reach, Progress.going}
-use Rattle.model.specs.Counts.{stepAt}
-use Rattle.model.proofs.RunLaws.{recordAt, Keeps, reach-start, reach-accepts, each-record}
+use Rattle.model.specs.Sizes.{flagCount}
+use Rattle.model.specs.Run.{rowAt, rowOf, blank, startRow, startRows, fresh, move, moveAt, stop, after, stepAt, stepTape, reach, Progress.going}
+use Rattle.model.proofs.RunLaws.{recordAt, Keeps, reach-start, follow-accepts, each-record}
 use Rattle.model.proofs.Turns.{each-row, move-or-stop}
 use Rattle.model.proofs.Rows.{local-ok, row-ok, next-ok, ok-begin, ok-blank}
 pub use Rattle.model.proofs.Rows.{RowOk, slot-small}
 pub use Rattle.model.proofs.Admits.{Admitted, admitted, admitted-accepts}
 
 pub record Kept (u : Shape) (s : State) : Type 0 where
-  pub rows : length (s .rows) ≡ 32
-  pub values : length (s .bank .values) ≡ 8
-  pub deadlines : length (s .bank .deadlines) ≡ 256
-  pub flags : length (s .shared .flags) ≡ 9
+  pub rows : u .count ≤ length (s .rows)
+  pub values : length (s .bank .values) ≡ mostSlots
+  pub deadlines : length (s .bank .deadlines) ≡ length (s .rows) * mostSlots
+  pub flags : length (s .shared .flags) ≡ flagCount
   pub each : (j : ℕ) → RowOk (routine u) u j (rowAt s j)
   pub beyond : (j : ℕ) → u .count ≤ j → rowAt s j ≡ blank
 
@@ -74,7 +74,7 @@ flags-length m (Ask.Peek v) = refl
 module _ (u : Shape) (so : Sound u) (s : State) (kt : Kept u s) where
   module _ (i : ProcessNumber) (t : ℕ) (h : indexOf i < u .count) where
     there : indexOf i < length (s .rows)
-    there = omega (arith, kt .rows, so .few)
+    there = omega (arith, kt .rows)
 
     pub kept-move : Kept u (move u s i t)
     unfolding moveAt
@@ -83,9 +83,9 @@ module _ (u : Shape) (so : Sound u) (s : State) (kt : Kept u s) where
         let q : Ask = askAt (r .local .place) (u .delta) r in
         let a : Reply = reply (s .bank) (s .shared) i t q in
         record {
-          rows = length-set (s .rows) _ _ ∙ kt .rows;
+          rows = rw (length-set (s .rows)) (kt .rows);
           values = values-length (s .bank) i t q ∙ kt .values;
-          deadlines = deadlines-length (s .bank) i t q ∙ kt .deadlines;
+          deadlines = rw (length-set (s .rows)) (deadlines-length (s .bank) i t q ∙ kt .deadlines);
           flags = flags-length (s .shared) q ∙ kt .flags;
           each =
               each-row (RowOk (routine u) u) (s .rows) (indexOf i) _ there (λ j n. kt .each j)
@@ -98,9 +98,9 @@ module _ (u : Shape) (so : Sound u) (s : State) (kt : Kept u s) where
     unfolding stop
     kept-stop =
         record {
-          rows = length-set (s .rows) _ _ ∙ kt .rows;
+          rows = rw (length-set (s .rows)) (kt .rows);
           values = kt .values;
-          deadlines = kt .deadlines;
+          deadlines = rw (length-set (s .rows)) (kt .deadlines);
           flags = kt .flags;
           each =
               each-row (RowOk (routine u) u) (s .rows) (indexOf i) _ there (λ j n. kt .each j)
@@ -140,15 +140,15 @@ module _ (u : Shape) (so : Sound u) (xs : List ℕ) (st : Starts u xs) where
       by false e true f = rw (getD-startRows u 0 xs j (ltb-true j (length xs) f), zero-add, e) (none j (ltb-false j (u .count) e))
       by b e false f =
           let past = ltb-false j (length xs) f in
-          rw (List·getD-eq-default (startRows u 0 xs) blank {n = j} (omega (arith, length-startRows u 0 xs))) (none j (omega (arith, st .long, so .few)))
+          rw (List·getD-eq-default (startRows u 0 xs) blank {n = j} (omega (arith, length-startRows u 0 xs))) (none j (omega (arith, st .few)))
 
   pub kept-fresh : Kept u (fresh u xs)
-  unfolding fresh freshBank
+  unfolding fresh
   kept-fresh =
       record {
-        rows = length-startRows u 0 xs ∙ st .long;
+        rows = rw (length-startRows u 0 xs) (st .few);
         values = refl;
-        deadlines = length-replicate 256 unlimited;
+        deadlines = rw (length-startRows u 0 xs) (length-replicate (length xs * mostSlots) unlimited);
         flags = refl;
         each = fresh-rows (RowOk (routine u) u) (λ j h. ok-blank (routine u) u j so h) (λ j h ok. ok-begin (routine u) u j (getD xs j 0) ok);
         beyond = fresh-rows (λ j r. u .count ≤ j → r ≡ blank) (λ j h l. refl) (λ j h ok l. absurd (omega arith));
@@ -159,7 +159,7 @@ module _ (u : Shape) (so : Sound u) (xs : List ℕ) (st : Starts u xs) where
       → ((k : ℕ) (s : State) → reach u (fresh u xs) rest k ≡ going s → Kept u s → Admitted u s (stepAt rest k) → P k s → P (suc k) (after u s (stepAt rest k)))
       → (k : ℕ) {s : State} → reach u (fresh u xs) rest k ≡ going s → Kept u s × P k s
   each-kept rest P start keep k e =
-      let all = each-record u (fresh u xs) rest Q (reach-start u (fresh u xs) rest, kept-fresh, start) kept k e in
+      let all = each-record (stepTape u rest) (fresh u xs) Q (reach-start u (fresh u xs) rest, kept-fresh, start) kept k e in
       (all .1, all .2)
     where
       Q : ℕ → State → Type 0
@@ -168,7 +168,7 @@ module _ (u : Shape) (so : Sound u) (xs : List ℕ) (st : Starts u xs) where
       kept : Keeps u rest Q
       kept k s h q =
           let ad = admitted u s (recordAt rest k) h in
-          (reach-accepts u (fresh u xs) rest k (q .0) h, kept-after u so s (q .1) _ ad, keep k s (q .0) (q .1) ad (q .2))
+          (follow-accepts (stepTape u rest) (fresh u xs) k (q .0) h, kept-after u so s (q .1) _ ad, keep k s (q .0) (q .1) ad (q .2))
 
   pub reach-kept : (rest : List ℕ) (k : ℕ) {s : State} → reach u (fresh u xs) rest k ≡ going s → Kept u s
   reach-kept rest k e = each-kept rest (λ k s. Unit {0}) tt (λ k s e kt ad z. tt) k e .0

@@ -14,9 +14,8 @@ use Rattle.model.specs.declared.Row.{Row}
 use Rattle.model.specs.declared.State.{State}
 use Rattle.model.specs.Routine.{isDecided}
 use Rattle.model.specs.Bounds.{Sound, Starts}
-use Rattle.model.specs.Run.{rowAt, fresh, after, reach, Progress.going}
-use Rattle.model.specs.Counts.{stepAt}
-use Rattle.model.proofs.RunLaws.{recordAt, Keeps, reach-start, reach-accepts, each-record}
+use Rattle.model.specs.Run.{rowAt, fresh, after, stepAt, stepTape, reach, Progress.going}
+use Rattle.model.proofs.RunLaws.{recordAt, Keeps, reach-start, follow-accepts, each-record}
 use Rattle.model.proofs.Turns.{turn}
 use Rattle.model.proofs.Keeping.{Kept, kept-fresh, kept-after, Admitted, admitted}
 
@@ -24,7 +23,7 @@ module _ (u : Shape) (so : Sound u) (xs : List ℕ) (st : Starts u xs) (rest : L
   pub from-then : (P : State → Type 0) (j : ℕ) → ((s : State) → reach u (fresh u xs) rest j ≡ going s → P s)
       → ((k : ℕ) (s : State) → Kept u s → Admitted u s (stepAt rest k) → P s → P (after u s (stepAt rest k))) → (k : ℕ) {s : State} → j ≤ k
       → reach u (fresh u xs) rest k ≡ going s → P s
-  from-then P j then keep k h e = each-record u (fresh u xs) rest Q start kept k e .2 h
+  from-then P j then keep k h e = each-record (stepTape u rest) (fresh u xs) Q start kept k e .2 h
     where
       Q : ℕ → State → Type 0
       Q k s = (reach u (fresh u xs) rest k ≡ going s) × Kept u s × (j ≤ k → P s)
@@ -37,7 +36,7 @@ module _ (u : Shape) (so : Sound u) (xs : List ℕ) (st : Starts u xs) (rest : L
       kept : Keeps u rest Q
       kept k s a q =
           let ad = admitted u s (recordAt rest k) a in
-          let here = reach-accepts u (fresh u xs) rest k (q .0) a in
+          let here = follow-accepts (stepTape u rest) (fresh u xs) k (q .0) a in
           (here, kept-after u so s (q .1) _ ad, by here ad (decLt k j))
         where
           by : reach u (fresh u xs) rest (suc k) ≡ going (after u s (stepAt rest k)) → Admitted u s (stepAt rest k) → Dec (k < j) → j ≤ suc k
@@ -54,7 +53,7 @@ module _ (u : Shape) (so : Sound u) (xs : List ℕ) (st : Starts u xs) (rest : L
   decided-stays i v j then =
       from-then (λ s. DecidedOn v (rowAt s i)) j then
       (λ k s kt ad old.
-      turn u s (stepAt rest k) (omega (arith, kt .rows, ad .inside, so .few)) (λ m r. m ≡ i → DecidedOn v r) (λ m n e. rw e old) (λ b e. rw e old)
+      turn u s (stepAt rest k) (omega (arith, kt .rows, ad .inside)) (λ m r. m ≡ i → DecidedOn v r) (λ m n e. rw e old) (λ b e. rw e old)
       (λ b e. absurd (moved s (stepAt rest k) old e (ad .unsettled b))) i refl)
     where
       moved : (s : State) (k : Step) → DecidedOn v (rowAt s i) → indexOf (k .process) ≡ i → isDecided (rowAt s (indexOf (k .process)) .local .place) ≡ false → ⊥

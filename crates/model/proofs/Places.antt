@@ -1,41 +1,50 @@
 -- Classes of places, as tests on a code, and statements on every place that one computed test proves.
 -- Assumes nothing.
 use mathlib.Core.Bool.{Bool, true, false, not, _&&_, _||_}
-use mathlib.Core.Path.{_≡_, refl}
+use mathlib.Core.Path.{_≡_, refl, sym, ap, _∙_}
 use Prim.Native.Nat.{ℕ}
 use lib.Dec.{T, eqb, leb}
 use Rattle.model.specs.declared.Place.{Place}
+use Rattle.model.specs.Places.{codeOf, placeOf}
 use Rattle.model.specs.Routine.{Routine}
 
--- The code of a place among all places. The report's numbers are `shownOf`'s; a later place has a code of its own, and no class moves.
-abbrev pub codeOf : Place → ℕ
-codeOf Place.Rest = 0
-codeOf Place.Look = 1
-codeOf Place.Put = 2
-codeOf Place.Wait = 3
-codeOf Place.Check = 4
-codeOf Place.Critical = 5
-codeOf Place.Flag = 6
-codeOf Place.Scan = 7
-codeOf Place.Decided = 8
+-- THE CODE
+
+-- a code is that of one place
+pub place-of-code : (p : Place) → placeOf (codeOf p) ≡ p
+place-of-code Place.Rest = refl
+place-of-code Place.Look = refl
+place-of-code Place.Put = refl
+place-of-code Place.Wait = refl
+place-of-code Place.Check = refl
+place-of-code Place.Critical = refl
+place-of-code Place.Flag = refl
+place-of-code Place.Scan = refl
+place-of-code Place.Decided = refl
+
+pub one-place : (p q : Place) → codeOf p ≡ codeOf q → p ≡ q
+one-place p q e = sym (place-of-code p) ∙ ap placeOf e ∙ place-of-code q
 
 -- CLASSES
 
--- the places of each routine
+-- the places of the lock, and those of each routine
+abbrev pub ofLock : Place → Bool
+ofLock p = leb (codeOf p) 5
+
 abbrev pub inKind : Routine → Place → Bool
-inKind Routine.Lock p = leb (codeOf p) 5
+inKind (Routine.Lock how) p = ofLock p
 inKind Routine.Plain p = (leb 1 (codeOf p) && leb (codeOf p) 4) || eqb (codeOf p) 8
 inKind Routine.Fast p = (leb 1 (codeOf p) && leb (codeOf p) 4) || (leb 6 (codeOf p) && leb (codeOf p) 8)
 
 -- the routines that decide by the timed register
 abbrev pub timedDecision : Routine → Bool
-timedDecision Routine.Lock = false
+timedDecision (Routine.Lock how) = false
 timedDecision Routine.Plain = true
 timedDecision Routine.Fast = true
 
 -- the place where a process of a routine begins; that, or a blank row's
 abbrev pub startPlace : Routine → Place
-startPlace Routine.Lock = Place.Rest
+startPlace (Routine.Lock how) = Place.Rest
 startPlace Routine.Plain = Place.Look
 startPlace Routine.Fast = Place.Flag
 

@@ -20,7 +20,7 @@ use Rattle.model.proofs.Counts.{reach-counts}
 -- THE OPERATION
 
 own-small : (κ : Routine) (u : Shape) → Sound u → {j : ℕ} {r : Row} → RowOk κ u j r → T (inKind κ Place.Flag) → r .own ≤ mostSlots
-own-small Routine.Lock u so ok h = absurd h
+own-small (Routine.Lock how) u so ok h = absurd h
 own-small Routine.Plain u so ok h = omega (arith, ok .small, so .slim)
 own-small Routine.Fast u so ok h = omega (arith, ok .small, so .slim)
 

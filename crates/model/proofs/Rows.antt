@@ -9,28 +9,27 @@ use lib.Dec.{T, leb}
 use borrow.Author.Tests.{leb-true}
 use Rattle.terms.specs.Limits.{mostSlots}
 use Rattle.model.specs.declared.Place.{Place}
-use Rattle.model.specs.declared.Kind.{Kind}
 use Rattle.model.specs.declared.Shape.{Shape}
 use Rattle.model.specs.declared.Local.{Local}
 use Rattle.model.specs.declared.Row.{Row}
-use Rattle.model.specs.Routine.{Routine, to, scans, Slots, slotsOf, slots, lockNext, plainNext, scanAt, fastNext, nextOf, begin}
+use Rattle.model.specs.Routine.{Routine, to, scans, SlotRule, Slots, slotsOf, lockNext, plainNext, scanAt, fastNext, nextOf, begin}
 use Rattle.model.specs.Bounds.{Sound, startOk}
 use Rattle.model.specs.Run.{blank}
 use Rattle.model.proofs.Places.{inKind}
 
 -- what the process of row j writes, and the slots that it may have
 abbrev pub OwnOk : Routine → Shape → ℕ → ℕ → Type 0
-OwnOk Routine.Lock u j x = x ≡ suc j
+OwnOk (Routine.Lock how) u j x = x ≡ suc j
 OwnOk Routine.Plain u j x = 1 ≤ x
 OwnOk Routine.Fast u j x = 1 ≤ x
 
 abbrev pub SmallOk : Routine → Shape → ℕ → Type 0
-SmallOk Routine.Lock u x = Unit {0}
+SmallOk (Routine.Lock how) u x = Unit {0}
 SmallOk Routine.Plain u x = x ≤ u .size
 SmallOk Routine.Fast u x = x ≤ u .size
 
 abbrev pub SlotOk : Routine → Shape → ℕ → ℕ → Type 0
-SlotOk Routine.Lock u j c = c < u .size
+SlotOk (Routine.Lock how) u j c = c < u .size
 SlotOk Routine.Plain u j c = c ≡ 0
 SlotOk Routine.Fast u j c = c ≡ 0
 
@@ -42,8 +41,8 @@ pub record RowOk (κ : Routine) (u : Shape) (j : ℕ) (r : Row) : Type 0 where
   pub slot : SlotOk κ u j (r .local .slot .0)
   pub scan : r .local .scan ≤ u .size
 
-abbrev pub LockRow : Shape → ℕ → Row → Type 0
-LockRow u j r = RowOk Routine.Lock u j r
+abbrev pub LockRow : SlotRule → Shape → ℕ → Row → Type 0
+LockRow how u j r = RowOk (Routine.Lock how) u j r
 
 abbrev pub PlainRow : Shape → ℕ → Row → Type 0
 PlainRow u j r = RowOk Routine.Plain u j r
@@ -53,14 +52,12 @@ FastRow u j r = RowOk Routine.Fast u j r
 
 -- the slots that a lock's process takes are slots
 record Slotted (u : Shape) (c : Slots) : Type 0 where
-  leave : c .leave < u .size
-  filled : c .filled < u .size
-  lost : c .lost < u .size
+  leave : c .leave .0 < u .size
+  filled : c .filled .0 < u .size
+  lost : c .lost .0 < u .size
 
-slotted : (κ : Kind) (u : Shape) (x : Local) → 1 ≤ u .size → x .slot .0 < u .size → Slotted u (slotsOf κ u x)
-slotted Kind.Lock u x h g = record { leave = g; filled = mod-lt _ h; lost = g }
-slotted Kind.Plain u x h g = record { leave = g; filled = mod-lt _ h; lost = g }
-slotted Kind.Fast u x h g = record { leave = g; filled = mod-lt _ h; lost = g }
+slotted : (how : SlotRule) (u : Shape) (x : Local) → 1 ≤ u .size → x .slot .0 < u .size → Slotted u (slotsOf how u x)
+slotted SlotRule.Ring u x h g = record { leave = g; filled = mod-lt _ h; lost = g }
 
 -- what a move changes of a row: the rest of it, own value apart, may be anything
 pub record LocalOk (κ : Routine) (u : Shape) (j : ℕ) (x : Local) : Type 0 where
@@ -80,13 +77,14 @@ at κ u j x place slot scan = record { place = λ h. place; slot = slot; scan = 
 
 -- a move leads to such a local part; v is what it read and w when its wait would end
 module _ (u : Shape) (so : Sound u) (j : ℕ) (r : Row) (v w : ℕ) where
-  lock-next : LockRow u j r → (p : Place) (b : Bool) → LocalOk Routine.Lock u j (lockNext (slots u (r .local)) p b w (r .local))
-  lock-next ok = go
+  lock-next : (how : SlotRule) → LockRow how u j r → (p : Place) (b : Bool)
+      → LocalOk (Routine.Lock how) u j (lockNext (slotsOf how u (r .local)) p b w (r .local))
+  lock-next how ok = go
     where
-      c : Slotted u (slots u (r .local))
-      c = slotted (u .kind) u (r .local) (so .sized) (ok .slot)
+      c : Slotted u (slotsOf how u (r .local))
+      c = slotted how u (r .local) (so .sized) (ok .slot)
 
-      go : (p : Place) (b : Bool) → LocalOk Routine.Lock u j (lockNext (slots u (r .local)) p b w (r .local))
+      go : (p : Place) (b : Bool) → LocalOk (Routine.Lock how) u j (lockNext (slotsOf how u (r .local)) p b w (r .local))
       go Place.Rest b = at _ u j _ tt (c .leave) (ok .scan)
       go Place.Look true = at _ u j _ tt (ok .slot) (ok .scan)
       go Place.Look false = at _ u j _ tt (c .filled) (ok .scan)
@@ -133,23 +131,23 @@ module _ (u : Shape) (so : Sound u) (j : ℕ) (r : Row) (v w : ℕ) where
   fast-next ok Place.Decided b = local-ok _ u j r ok
 
   pub next-ok : (κ : Routine) → RowOk κ u j r → (p : Place) (b : Bool) → LocalOk κ u j (nextOf κ u (r .own) p b v w (r .local))
-  next-ok Routine.Lock = lock-next
+  next-ok (Routine.Lock how) = lock-next how
   next-ok Routine.Plain = plain-next
   next-ok Routine.Fast = fast-next
 
 -- AT THE BEGINNING
 
 pub ok-begin : (κ : Routine) (u : Shape) (j x : ℕ) → startOk κ (u .size) x → RowOk κ u j (begin κ j x)
-ok-begin Routine.Lock u j x ok = record { place = λ h. tt; own = λ h. omega arith; small = tt; slot = ok; scan = omega arith }
+ok-begin (Routine.Lock how) u j x ok = record { place = λ h. tt; own = λ h. omega arith; small = tt; slot = ok; scan = omega arith }
 ok-begin Routine.Plain u j x ok = record { place = λ h. tt; own = λ h. ok .0; small = ok .1; slot = refl; scan = omega arith }
 ok-begin Routine.Fast u j x ok = record { place = λ h. tt; own = λ h. ok .0; small = ok .1; slot = refl; scan = omega arith }
 
 pub ok-blank : (κ : Routine) (u : Shape) (j : ℕ) → Sound u → u .count ≤ j → RowOk κ u j blank
-ok-blank Routine.Lock u j so past = record { place = λ h. tt; own = λ h. absurd (omega arith); small = tt; slot = so .sized; scan = omega arith }
+ok-blank (Routine.Lock how) u j so past = record { place = λ h. tt; own = λ h. absurd (omega arith); small = tt; slot = so .sized; scan = omega arith }
 ok-blank Routine.Plain u j so past = record { place = λ h. absurd (omega arith); own = λ h. absurd (omega arith); small = omega arith; slot = refl; scan = omega arith }
 ok-blank Routine.Fast u j so past = record { place = λ h. absurd (omega arith); own = λ h. absurd (omega arith); small = omega arith; slot = refl; scan = omega arith }
 
 pub slot-small : (κ : Routine) (u : Shape) → Sound u → (j : ℕ) (r : Row) → RowOk κ u j r → r .local .slot .0 < mostSlots
-slot-small Routine.Lock u so j r ok = omega (arith, ok .slot, so .slim)
+slot-small (Routine.Lock how) u so j r ok = omega (arith, ok .slot, so .slim)
 slot-small Routine.Plain u so j r ok = omega (arith, ok .slot)
 slot-small Routine.Fast u so j r ok = omega (arith, ok .slot)

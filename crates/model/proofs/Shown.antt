@@ -12,20 +12,18 @@ use lib.ListN.{length, getD, drop, List·getD-append}
 use lib.Seq.{getD-append-add}
 use Rattle.terms.specs.Refusal.{ifAccepted}
 use Rattle.records.specs.Record.{byte}
-use Rattle.setups.specs.Setup.{setupFields}
-use Rattle.steps.specs.Step.{stepFields}
 use Rattle.model.specs.declared.Place.{Place}
 use Rattle.model.specs.declared.Shape.{Shape}
 use Rattle.model.specs.declared.Row.{Row}
 use Rattle.model.specs.declared.State.{State}
 use Rattle.model.specs.Routine.{Routine, routine}
 use Rattle.model.specs.Sizes.{lineWidth}
-use Rattle.model.specs.Run.{blank, rowAt, after, recordRefusal, advance, reach, restOf, records, shapeOf, reached, runRefusal, runOf, Progress, Progress.going, Progress.stopped}
+use Rattle.model.specs.Run.{blank, rowAt, Tape, advance, follow, runOn, restOf, records, shape, runOf, Progress, Progress.going, Progress.stopped}
 use Rattle.model.specs.Claims.{shown}
 use Rattle.model.specs.Report.{shownOf, shownPlace, figureOf, line, lines, reportOf, outcomeOf, ranOf}
 use Rattle.model.proofs.Places.{imply, settled, inside}
 use Rattle.model.proofs.ReportLaws.{length-lines}
-use Rattle.model.proofs.RunLaws.{recordAt, going-stopped}
+use Rattle.model.proofs.RunLaws.{going-stopped}
 
 -- A REFUSAL HAS A NUMBER
 
@@ -39,54 +37,68 @@ if-stopped : (n k : ℕ) (s : State) {y j : ℕ} → ifAccepted n (going s) (sto
 if-stopped zero k s e z = going-stopped e
 if-stopped (suc n) k s e z = let q = stopped-number e in omega arith
 
-pub reach-number : (u : Shape) (x : State) (rest : List ℕ) (k : ℕ) {y j : ℕ} → reach u x rest k ≡ stopped y j → y ≢ 0
-unfolding reach advance
-reach-number u x rest zero e = absurd (going-stopped e)
-reach-number u x rest (suc k) {y} {j} e = by (reach u x rest k) refl e (λ f. reach-number u x rest k f)
+pub follow-number : (tape : Tape) (x : State) (k : ℕ) {y j : ℕ} → follow tape x k ≡ stopped y j → y ≢ 0
+unfolding follow advance
+follow-number tape x zero e = absurd (going-stopped e)
+follow-number tape x (suc k) {y} {j} e = by (follow tape x k) refl e (λ f. follow-number tape x k f)
   where
-    by : (p : Progress) → reach u x rest k ≡ p → advance u (suc k) p (recordAt rest k) ≡ stopped y j → (reach u x rest k ≡ stopped y j → y ≢ 0) → y ≢ 0
-    by (going s) f g before = if-stopped (recordRefusal u s (recordAt rest k)) (suc k) (after u s (stepFields (recordAt rest k))) g
+    by : (p : Progress) → follow tape x k ≡ p → advance tape k p ≡ stopped y j → (follow tape x k ≡ stopped y j → y ≢ 0) → y ≢ 0
+    by (going s) f g before = if-stopped (tape .refusal k s) (suc k) (tape .after k s) g
     by (stopped z i) f g before = before (f ∙ g)
 
--- and stands at a record whose predecessors were accepted
-if-stopped-at : (n k : ℕ) (s : State) {y j : ℕ} → ifAccepted n (going s) (stopped n k) ≡ stopped y j → j ≡ k
+-- and stands at a record whose predecessors were accepted, and is what the tape says there
+if-stopped-at : (n k : ℕ) (s : State) {y j : ℕ} → ifAccepted n (going s) (stopped n k) ≡ stopped y j → (j ≡ k) × (n ≡ y)
 if-stopped-at zero k s e = absurd (going-stopped e)
-if-stopped-at (suc n) k s e = sym (stopped-at e)
+if-stopped-at (suc n) k s e = (sym (stopped-at e), stopped-number e)
 
-pub stopped-after : (u : Shape) (x : State) (rest : List ℕ) (n : ℕ) {y j : ℕ} → reach u x rest n ≡ stopped y j
-    → (k : ℕ) × (j ≡ suc k) × (s : State) × (reach u x rest k ≡ going s)
-unfolding reach advance
-stopped-after u x rest zero e = absurd (going-stopped e)
-stopped-after u x rest (suc n) {y} {j} e = by (reach u x rest n) refl e (λ f. stopped-after u x rest n f)
+-- where the record after the first k is refused with y
+pub record Refused (tape : Tape) (x : State) (n y j : ℕ) : Type 0 where
+  pub k : ℕ
+  pub state : State
+  pub index : j ≡ suc k
+  pub led : follow tape x k ≡ going state
+  pub refusal : tape .refusal k state ≡ y
+  pub among : k < n
+
+pub stopped-after : (tape : Tape) (x : State) (n : ℕ) {y j : ℕ} → follow tape x n ≡ stopped y j → Refused tape x n y j
+unfolding follow advance
+stopped-after tape x zero e = absurd (going-stopped e)
+stopped-after tape x (suc n) {y} {j} e = by (follow tape x n) refl e (λ f. stopped-after tape x n f)
   where
-    by : (p : Progress) → reach u x rest n ≡ p → advance u (suc n) p (recordAt rest n) ≡ stopped y j
-        → (reach u x rest n ≡ stopped y j → (k : ℕ) × (j ≡ suc k) × (s : State) × (reach u x rest k ≡ going s))
-        → (k : ℕ) × (j ≡ suc k) × (s : State) × (reach u x rest k ≡ going s)
+    by : (p : Progress) → follow tape x n ≡ p → advance tape n p ≡ stopped y j → (follow tape x n ≡ stopped y j → Refused tape x n y j)
+        → Refused tape x (suc n) y j
     by (going s) f g before =
-        (n, if-stopped-at (recordRefusal u s (recordAt rest n)) (suc n) (after u s (stepFields (recordAt rest n))) g, s, f)
-    by (stopped z i) f g before = before (f ∙ g)
+        let a = if-stopped-at (tape .refusal n s) (suc n) (tape .after n s) g in
+        record { k = n; state = s; index = a .0; led = f; refusal = a .1; among = omega arith }
+    by (stopped z i) f g before =
+        let b = before (f ∙ g) in
+        record { k = b .k; state = b .state; index = b .index; led = b .led; refusal = b .refusal; among = omega (arith, b .among) }
 
-pub run-number : (trace : List ℕ) (room : ℕ) {y j : ℕ} → runOf trace room ≡ stopped y j → y ≢ 0
-unfolding runOf
-run-number trace room {y} {j} e = by (runRefusal trace room) e
-  where
-    by : (n : ℕ) → ifAccepted n (reached trace (records (restOf trace))) (stopped n 0) ≡ stopped y j → y ≢ 0
-    by zero f z = reach-number _ _ (restOf trace) (records (restOf trace)) f z
-    by (suc n) f z = let q = stopped-number f in omega arith
+-- of a run: before its first record, or there
+pub run-number : (first : ℕ) (tape : Tape) (x : State) (n : ℕ) {y j : ℕ} → runOn first tape x n ≡ stopped y j → y ≢ 0
+unfolding runOn
+run-number zero tape x n e z = follow-number tape x n e z
+run-number (suc first) tape x n e z = let q = stopped-number e in omega arith
+
+pub run-stopped-after : (first : ℕ) (tape : Tape) (x : State) (n : ℕ) {y j : ℕ} → runOn first tape x n ≡ stopped y (suc j)
+    → (first ≡ 0) × Refused tape x n y (suc j)
+unfolding runOn
+run-stopped-after zero tape x n e = (refl, stopped-after tape x n e)
+run-stopped-after (suc first) tape x n e = absurd (omega (arith, stopped-at e))
 
 -- so a run whose outcome is 0 went on to its end
-pub accepted-goes : (trace old : List ℕ) → ranOf trace old .outcome .number ≡ 0 → (s : State) × (runOf trace (length old) ≡ going s)
+pub accepted-goes : (most : ℕ) (trace old : List ℕ) → ranOf most trace old .outcome .number ≡ 0 → (s : State) × (runOf most trace (length old) ≡ going s)
 unfolding ranOf outcomeOf
-accepted-goes trace old e = by (runOf trace (length old)) refl e
+accepted-goes most trace old e = by (runOf most trace (length old)) refl e
   where
-    by : (p : Progress) → runOf trace (length old) ≡ p → outcomeOf (records (restOf trace)) p .number ≡ 0
-        → (s : State) × (runOf trace (length old) ≡ going s)
+    by : (p : Progress) → runOf most trace (length old) ≡ p → outcomeOf (records (restOf trace)) p .number ≡ 0
+        → (s : State) × (runOf most trace (length old) ≡ going s)
     by (going s) f z = (s, f)
-    by (stopped x j) f z = absurd (run-number trace (length old) f z)
+    by (stopped x j) f z = absurd (run-number _ _ _ _ f z)
 
 -- THE NUMBERS OF A ROW
 
-lines-at : (κ : Routine) (rows : List Row) (n j m : ℕ) → j < n → m < lineWidth → getD (lines κ rows n) (lineWidth * j + m) 0 ≡ getD (line κ (getD rows j blank)) m 0
+pub lines-at : (κ : Routine) (rows : List Row) (n j m : ℕ) → j < n → m < lineWidth → getD (lines κ rows n) (lineWidth * j + m) 0 ≡ getD (line κ (getD rows j blank)) m 0
 unfolding lines
 lines-at κ rows zero j m h l = absurd (omega arith)
 lines-at κ rows (suc n) j m h l = by (decLt j n) (λ g. lines-at κ rows n j m g l)
@@ -101,31 +113,31 @@ lines-at κ rows (suc n) j m h l = by (decLt j n) (λ g. lines-at κ rows n j m 
         let end : lineWidth * n ≡ length (lines κ rows n) = omega (arith, length-lines κ rows n) in
         rw (same, end) (getD-append-add (lines κ rows n) (line κ (getD rows n blank)) m 0)
 
-shown-at : (trace old : List ℕ) {s : State} → runOf trace (length old) ≡ going s → (j m : ℕ) → j < byte 3 trace → m < lineWidth
-    → shown trace old j m ≡ getD (line (routine (shapeOf (setupFields trace))) (rowAt s j)) m 0
+shown-at : (most : ℕ) (trace old : List ℕ) {s : State} → runOf most trace (length old) ≡ going s → (j m : ℕ) → j < byte 3 trace → m < lineWidth
+    → shown most trace old j m ≡ getD (line (routine (shape trace)) (rowAt s j)) m 0
 unfolding ranOf reportOf
-shown-at trace old {s} e j m h l =
-    let κ : Routine = routine (shapeOf (setupFields trace)) in
+shown-at most trace old {s} e j m h l =
+    let κ : Routine = routine (shape trace) in
     rw e
     (List·getD-append (lines κ (s .rows) (byte 3 trace)) (drop (length (lines κ (s .rows) (byte 3 trace))) old) 0 (lineWidth * j + m)
     (omega (arith, length-lines κ (s .rows) (byte 3 trace)))
     ∙ lines-at κ (s .rows) (byte 3 trace) j m h l)
 
 -- what the line of row j shows
-pub record Shows (trace old : List ℕ) (j : ℕ) (r : Row) : Type 0 where
-  pub place : shown trace old j 0 ≡ shownPlace r
-  pub figure : shown trace old j 1 ≡ figureOf (routine (shapeOf (setupFields trace))) r
-  pub moves : shown trace old j 2 ≡ r .moves
-  pub lates : shown trace old j 3 ≡ r .lates
+pub record Shows (most : ℕ) (trace old : List ℕ) (j : ℕ) (r : Row) : Type 0 where
+  pub place : shown most trace old j 0 ≡ shownPlace r
+  pub figure : shown most trace old j 1 ≡ figureOf (routine (shape trace)) r
+  pub moves : shown most trace old j 2 ≡ r .moves
+  pub lates : shown most trace old j 3 ≡ r .lates
 
-pub shows : (trace old : List ℕ) {s : State} → runOf trace (length old) ≡ going s → (j : ℕ) → j < byte 3 trace → Shows trace old j (rowAt s j)
+pub shows : (most : ℕ) (trace old : List ℕ) {s : State} → runOf most trace (length old) ≡ going s → (j : ℕ) → j < byte 3 trace → Shows most trace old j (rowAt s j)
 unfolding line
-shows trace old e j h =
+shows most trace old e j h =
     record {
-      place = shown-at trace old e j 0 h (omega arith);
-      figure = shown-at trace old e j 1 h (omega arith);
-      moves = shown-at trace old e j 2 h (omega arith);
-      lates = shown-at trace old e j 3 h (omega arith);
+      place = shown-at most trace old e j 0 h (omega arith);
+      figure = shown-at most trace old e j 1 h (omega arith);
+      moves = shown-at most trace old e j 2 h (omega arith);
+      lates = shown-at most trace old e j 3 h (omega arith);
     }
 
 -- a row that shows 5 is inside and one that shows 8 has decided, and neither has crashed

@@ -51,7 +51,7 @@ record Deciding (r : Row) : Type 0 where
   real : r .own ≢ 0
 
 deciding : (κ : Routine) (u : Shape) (j : ℕ) (r : Row) → T (timedDecision κ) → j < u .count → RowOk κ u j r → Deciding r
-deciding Routine.Lock u j r n h ok = absurd n
+deciding (Routine.Lock how) u j r n h ok = absurd n
 deciding Routine.Plain u j r n h ok =
     record {
       slot = ok .slot;
@@ -72,8 +72,8 @@ pub record Proposer (n y : ℕ) (seat : ℕ → Seat) : Type 0 where
   pub proposed : ownOf (seat who) ≡ y
   pub active : 0 < seat who .row .moves
 
-abbrev pub Proposed : ℕ → World → Type 0
-Proposed n w = w .value 0 ≢ 0 → Proposer n (w .value 0) (w .seat)
+abbrev pub HasProposer : ℕ → World → Type 0
+HasProposer n w = w .value 0 ≢ 0 → Proposer n (w .value 0) (w .seat)
 
 -- a seat with the same proposal and no fewer moves
 pub proposer-stays : (n y m : ℕ) (seat : ℕ → Seat) (s : Seat) → ownOf s ≡ ownOf (seat m) → seat m .row .moves ≤ s .row .moves → Proposer n y seat → Proposer n y (put seat m s)
@@ -81,7 +81,7 @@ proposer-stays n y m seat s e h p =
     let q = put-all (λ i x. (ownOf x ≡ ownOf (seat i)) × (seat i .row .moves ≤ x .row .moves)) {f = seat} {i = m} {a = s} (e, h) (λ i o. (refl, omega arith)) (p .who) in
     record { who = p .who; among = p .among; proposed = q .0 ∙ p .proposed; active = omega (arith, q .1, p .active) }
 
-pub proposed-along : (c : Pace) (u : Shape) → T (timedDecision (routine u)) → Along c u (Proposed (u .count))
+pub proposed-along : (c : Pace) (u : Shape) → T (timedDecision (routine u)) → Along c u (HasProposer (u .count))
 proposed-along c u n =
     record {
       on-move =
@@ -91,13 +91,13 @@ proposed-along c u n =
       on-crash = λ w m t old z. proposer-stays (u .count) _ m (w .seat) _ refl (omega arith) (old z);
     }
   where
-    go : (w : World) (m : ℕ) {y : ℕ} → m < u .count → Proposed (u .count) w → (s : Seat) → ownOf s ≡ ownOf (w .seat m) → w .seat m .row .moves < s .row .moves
+    go : (w : World) (m : ℕ) {y : ℕ} → m < u .count → HasProposer (u .count) w → (s : Seat) → ownOf s ≡ ownOf (w .seat m) → w .seat m .row .moves < s .row .moves
         → From w m y → y ≢ 0 → Proposer (u .count) y (put (w .seat) m s)
     go w m h old s e g (same q) z = rw q (proposer-stays (u .count) _ m (w .seat) s e (omega arith) (old (rw q at z)))
     go w m h old s e g (mine q) z =
         record { who = m; among = h; proposed = rw put-same (e ∙ sym q); active = rw put-same (omega arith) }
 
-pub proposed-start : (u : Shape) (w : World) → Bare (routine u) w → Proposed (u .count) w
+pub proposed-start : (u : Shape) (w : World) → Bare (routine u) w → HasProposer (u .count) w
 proposed-start u w bare z = absurd (z (bare .value 0))
 
 -- HOW MANY MOVES
@@ -141,7 +141,7 @@ pub record FastCap (size : ℕ) (p : Place) (y own s a l : ℕ) : Type 0 where
   pub scans : T (scanning p) → ScanCap size own s a l
 
 abbrev pub Cap : Routine → Shape → ℕ → Row → Type 0
-Cap Routine.Lock u y r = Unit {0}
+Cap (Routine.Lock how) u y r = Unit {0}
 Cap Routine.Plain u y r = Most (0 + plainMost (r .local .place)) 0 (looking (r .local .place)) y (r .moves) (r .lates)
 Cap Routine.Fast u y r = FastCap (u .size) (r .local .place) y (r .own) (r .local .scan) (r .moves) (r .lates)
 
@@ -150,7 +150,7 @@ most-stays : {m f : ℕ} {b : Bool} {y z a l : ℕ} → (z ≡ 0 → y ≡ 0) �
 most-stays h c = record { all = c .all; empty = λ x e. c .empty x (h e) }
 
 cap-stays : (κ : Routine) (u : Shape) (y z : ℕ) (r : Row) → (z ≡ 0 → y ≡ 0) → Cap κ u y r → Cap κ u z r
-cap-stays Routine.Lock u y z r h c = tt
+cap-stays (Routine.Lock how) u y z r h c = tt
 cap-stays Routine.Plain u y z r h c = most-stays h c
 cap-stays Routine.Fast u y z r h c = record { most = most-stays h (c .most); scans = c .scans }
 
@@ -265,7 +265,7 @@ cap-moves : (c : Pace) (κ : Routine) (u : Shape) (w : World) (m t : ℕ) (l : B
     → T (timedDecision κ) → RowOk κ u m (w .seat m .row) → w .seat m .row .local .place ≡ p → (T (putting p) → l ≡ b) → Moves (clock c (u .delta)) w m t p b x v g d
     → Cap κ u (w .value 0) (w .seat m .row)
     → Cap κ u (v 0) (counted l (nextOf κ u (ownOf (w .seat m)) p b x (wakeAt (u .delta) t) (w .seat m .row .local)) (w .seat m .row))
-cap-moves c Routine.Lock u w m t l h n ok e q rule cp = tt
+cap-moves c (Routine.Lock how) u w m t l h n ok e q rule cp = tt
 cap-moves c Routine.Plain u w m t l h n ok e q rule cp =
     plain-cap (clock c (u .delta)) w m t (deciding Routine.Plain u m (w .seat m .row) n h ok) l _ rule q (rw e at (ok .place h))
     (subst (λ (p : Place). Most (0 + plainMost p) 0 (looking p) (w .value 0) (w .seat m .row .moves) (w .seat m .row .lates)) e cp)
@@ -283,7 +283,7 @@ still-filled r (same e) z = sym e ∙ z
 still-filled r (mine e) z = absurd (r (sym e ∙ z))
 
 cap-crash : (κ : Routine) (u : Shape) (y : ℕ) (r : Row) → Cap κ u y r → Cap κ u y (crash r)
-cap-crash Routine.Lock u y r c = tt
+cap-crash (Routine.Lock how) u y r c = tt
 cap-crash Routine.Plain u y r c = c
 cap-crash Routine.Fast u y r c = c
 
@@ -302,7 +302,7 @@ capped-along c u n =
 
 -- before the first move
 cap-zero : (κ : Routine) (u : Shape) (y : ℕ) (r : Row) → Unmoved κ r → Cap κ u y r
-cap-zero Routine.Lock u y r z = tt
+cap-zero (Routine.Lock how) u y r z = tt
 cap-zero Routine.Plain u y r z = rw (z .moves, z .lates) (record { all = omega arith; empty = λ x e. omega arith })
 cap-zero Routine.Fast u y r z =
     rw (z .moves, z .lates)

@@ -1,4 +1,4 @@
--- What the bench (32 rows, 8 registers, a deadline for each pair) does at a move and at a crash, as the theorems see it.
+-- What the bench (any number of rows, a deadline for each pair of process and register) does at a move and at a crash, as the theorems see it.
 -- Assumes nothing.
 use Prim.Native.Nat.{ℕ, _+_, _*_, _≤_, _<_}
 use mathlib.Core.Path.{_≡_, refl, ap, subst, _∙_, fun-ext}
@@ -10,7 +10,7 @@ use lib.Dec.{T, eqb}
 use lib.ListN.{length, getD, set}
 use lib.Seq.{getD-set-same, getD-set-other}
 use borrow.Author.Tests.{eqb-true, eqb-false, ltb-true, ltb-false, ne-eqb}
-use Rattle.terms.specs.Limits.{unlimited}
+use Rattle.terms.specs.Limits.{mostSlots, unlimited}
 use Rattle.terms.specs.declared.ProcessNumber.{ProcessNumber}
 use Rattle.terms.specs.declared.SlotNumber.{SlotNumber}
 use Rattle.terms.specs.Numbers.{indexOf}
@@ -29,12 +29,13 @@ use Rattle.model.specs.Time.{wakeAt}
 use Rattle.model.specs.Routine.{Routine, routine, askAt, told, counted, crash, nextOf, isDecided}
 use Rattle.model.specs.Memory.{reply, bankAfter, sharedAfter}
 use Rattle.model.specs.Bounds.{AskFits}
+use Rattle.model.specs.Sizes.{flagCount}
 use Rattle.model.specs.Run.{blank, rowAt, rowOf, moveAt, stop}
 use Rattle.model.proofs.World.{Seat, Commons, World, Clock, Moves, raise, put, put-all, moved, crashed}
 
 -- the deadline of the pair of the process at index j and register c
 abbrev pub deadlineOf : Bank → ℕ → SlotNumber → ℕ
-deadlineOf b j c = getD (b .deadlines) (j * 8 + c .0) 0
+deadlineOf b j c = getD (b .deadlines) (j * mostSlots + c .0) 0
 
 abbrev pub seatOf : State → ℕ → Seat
 seatOf s j = record { row = rowAt s j; deadline = deadlineOf (s .bank) j (rowAt s j .local .slot) }
@@ -47,11 +48,10 @@ abbrev pub view : ℕ → State → World
 view f s = record { seat = seatOf s; value = λ c. getD (s .bank .values) c 0; shared = commons (s .shared); floor = f }
 
 pub record Shaped (s : State) : Type 0 where
-  pub rows : length (s .rows) ≡ 32
-  pub values : length (s .bank .values) ≡ 8
-  pub deadlines : length (s .bank .deadlines) ≡ 256
-  pub flags : length (s .shared .flags) ≡ 9
-  pub slots : (j : ℕ) → rowAt s j .local .slot .0 < 8
+  pub values : length (s .bank .values) ≡ mostSlots
+  pub deadlines : length (s .bank .deadlines) ≡ length (s .rows) * mostSlots
+  pub flags : length (s .shared .flags) ≡ flagCount
+  pub slots : (j : ℕ) → rowAt s j .local .slot .0 < mostSlots
 
 -- one element of a list is new
 getD-put : {A : Type 0} (l : List A) (i : ℕ) (a d : A) → i < length l → (λ (j : ℕ). getD (set l i a) j d) ≡ put (λ (j : ℕ). getD l j d) i a
@@ -60,23 +60,23 @@ getD-put l i a d h = fun-ext (put-all (λ j y. getD (set l i a) j d ≡ y) (getD
 -- one seat is new, where nobody else's deadline changed
 pub seats : (s : State) (m t : ℕ) (r : Row) (b : Bank) (f : Shared) → m < length (s .rows)
     → ((j : ℕ) → j ≢ m → deadlineOf b j (rowAt s j .local .slot) ≡ deadlineOf (s .bank) j (rowAt s j .local .slot))
-    → seatOf (record { rows = set (s .rows) m r; bank = b; shared = f; last = t })
+    → seatOf (record { rows = set (s .rows) m r; bank = b; shared = f; newest = t })
     ≡ put (seatOf s) m (record { row = r; deadline = deadlineOf b m (r .local .slot) })
 seats s m t r b f h others =
     fun-ext
-    (put-all (λ j y. seatOf (record { rows = set (s .rows) m r; bank = b; shared = f; last = t }) j ≡ y) (rw (getD-set-same (s .rows) m r blank h))
+    (put-all (λ j y. seatOf (record { rows = set (s .rows) m r; bank = b; shared = f; newest = t }) j ≡ y) (rw (getD-set-same (s .rows) m r blank h))
     (λ j n. rw (getD-set-other (s .rows) m j r blank n, others j n)))
 
 -- two pairs are apart where the processes are, so a deadline set for one process leaves another's
-apart : (i : ProcessNumber) (j : ℕ) (c d : SlotNumber) → j ≢ indexOf i → c .0 < 8 → d .0 < 8 → j * 8 + d .0 ≢ pairOf i c
+apart : (i : ProcessNumber) (j : ℕ) (c d : SlotNumber) → j ≢ indexOf i → c .0 < mostSlots → d .0 < mostSlots → j * mostSlots + d .0 ≢ pairOf i c
 apart i j c d n h g e = n (omega arith)
 
-elsewhere : (s : State) (i : ProcessNumber) → Shaped s → (c : SlotNumber) → c .0 < 8 → (x j : ℕ) → j ≢ indexOf i
-    → getD (set (s .bank .deadlines) (pairOf i c) x) (j * 8 + rowAt s j .local .slot .0) 0 ≡ deadlineOf (s .bank) j (rowAt s j .local .slot)
+elsewhere : (s : State) (i : ProcessNumber) → Shaped s → (c : SlotNumber) → c .0 < mostSlots → (x j : ℕ) → j ≢ indexOf i
+    → getD (set (s .bank .deadlines) (pairOf i c) x) (j * mostSlots + rowAt s j .local .slot .0) 0 ≡ deadlineOf (s .bank) j (rowAt s j .local .slot)
 elsewhere s i sh c h x j n =
-    getD-set-other (s .bank .deadlines) (pairOf i c) (j * 8 + rowAt s j .local .slot .0) x 0 (apart i j c (rowAt s j .local .slot) n h (sh .slots j))
+    getD-set-other (s .bank .deadlines) (pairOf i c) (j * mostSlots + rowAt s j .local .slot .0) x 0 (apart i j c (rowAt s j .local .slot) n h (sh .slots j))
 
-others : (s : State) (i : ProcessNumber) (t : ℕ) → Shaped s → (q : Ask) → AskFits q → (j : ℕ) → j ≢ indexOf i
+pub others : (s : State) (i : ProcessNumber) (t : ℕ) → Shaped s → (q : Ask) → AskFits q → (j : ℕ) → j ≢ indexOf i
     → deadlineOf (bankAfter (s .bank) i t q) j (rowAt s j .local .slot) ≡ deadlineOf (s .bank) j (rowAt s j .local .slot)
 unfolding afterRead afterWrite
 others s i t sh Ask.Nothing o j n = refl
@@ -87,7 +87,7 @@ others s i t sh (Ask.Peek v) o j n = refl
 
 -- the process keeps its slot when it finds it empty and when it wins it
 keeps-slot : (κ : Routine) (u : Shape) (n v w : ℕ) (x : Local) → (nextOf κ u n Place.Look true v w x .slot ≡ x .slot) × (nextOf κ u n Place.Check true v w x .slot ≡ x .slot)
-keeps-slot Routine.Lock u n v w x = (refl, refl)
+keeps-slot (Routine.Lock how) u n v w x = (refl, refl)
 keeps-slot Routine.Plain u n v w x = (refl, refl)
 keeps-slot Routine.Fast u n v w x = (refl, refl)
 
@@ -107,7 +107,7 @@ bit-set false e = cc
 abbrev pub Mobile : Place → Type 0
 Mobile p = T (not (isDecided p))
 
-module _ (k : Clock) (u : Shape) (s : State) (i : ProcessNumber) (t : ℕ) (sh : Shaped s) (small : indexOf i < 32) (bound : k .delta ≡ u .delta)
+module _ (k : Clock) (u : Shape) (s : State) (i : ProcessNumber) (t : ℕ) (sh : Shaped s) (small : indexOf i < length (s .rows)) (bound : k .delta ≡ u .delta)
     (short : u .delta < unlimited) where
   abbrev answer : Place → Reply
   answer p = reply (s .bank) (s .shared) i t (askAt p (u .delta) (rowOf s i))
@@ -122,10 +122,10 @@ module _ (k : Clock) (u : Shape) (s : State) (i : ProcessNumber) (t : ℕ) (sh :
   deadline-after p b = deadlineOf (bank-after p) (indexOf i) (row-after p b .local .slot)
 
   in-rows : indexOf i < length (s .rows)
-  in-rows = omega (arith, sh .rows)
+  in-rows = small
 
   in-pairs : pairOf i (rowOf s i .local .slot) < length (s .bank .deadlines)
-  in-pairs = omega (arith, sh .deadlines, sh .slots (indexOf i))
+  in-pairs = omega (arith, small, sh .deadlines, sh .slots (indexOf i))
 
   in-values : rowOf s i .local .slot .0 < length (s .bank .values)
   in-values = omega (arith, sh .values, sh .slots (indexOf i))
@@ -167,7 +167,7 @@ module _ (k : Clock) (u : Shape) (s : State) (i : ProcessNumber) (t : ℕ) (sh :
 
   -- where a flag is raised
   raising : (f f′ : ℕ) (p : Place) (b : Bool) (n : ℕ) → told p (rowOf s i) (answer p) ≡ b → AskFits (askAt p (u .delta) (rowOf s i)) → bank-after p .values ≡ s .bank .values
-      → sharedAfter (s .shared) (askAt p (u .delta) (rowOf s i)) ≡ record { flags = set (s .shared .flags) n true } → n ≤ 8
+      → sharedAfter (s .shared) (askAt p (u .delta) (rowOf s i)) ≡ record { flags = set (s .shared .flags) n true } → n ≤ mostSlots
       → Moves k (view f s) (indexOf i) t p b (answer p .value) (view f s .value) (raise (view f s .shared) n) (deadline-after p b) → Seen f f′ p b
   unfolding moveAt
   raising f f′ p b n e o q r h m =
@@ -214,8 +214,8 @@ module _ (k : Clock) (u : Shape) (s : State) (i : ProcessNumber) (t : ℕ) (sh :
   sees f f′ Place.Decided b e h o = absurd h
 
 -- of a crash they see the mark in the row alone
-pub sees-stop : (s : State) (i : ProcessNumber) (t f f′ : ℕ) → Shaped s → indexOf i < 32
+pub sees-stop : (s : State) (i : ProcessNumber) (t f f′ : ℕ) → Shaped s → indexOf i < length (s .rows)
     → view f′ (stop s i t) ≡ crashed (view f s) (indexOf i) (crash (rowOf s i)) f′
 unfolding stop
 sees-stop s i t f f′ sh small =
-    world-is _ _ _ _ _ _ f′ (seats s (indexOf i) t (crash (rowOf s i)) (s .bank) (s .shared) (omega (arith, sh .rows)) (λ j n. refl)) refl refl
+    world-is _ _ _ _ _ _ f′ (seats s (indexOf i) t (crash (rowOf s i)) (s .bank) (s .shared) small (λ j n. refl)) refl refl

@@ -10,13 +10,13 @@ use lib.ListN.{getD, replicate}
 use borrow.Author.Tests.{ltb-true}
 use Rattle.terms.specs.Limits.{mostProcesses}
 use Rattle.terms.specs.Numbers.{slotOf}
-use Rattle.bank.specs.Registers.{freshBank, afterRead, afterWrite, valueAt}
+use Rattle.bank.specs.Registers.{afterRead, afterWrite, valueAt}
 use Rattle.records.specs.Record.{byte}
 use Rattle.setups.specs.Setup.{badKind, badSize, badStart, setupRefusal}
 use Rattle.steps.specs.Step.{stepRefusal}
 use Rattle.model.specs.declared.State.{State}
 use Rattle.model.specs.Bounds.{Bytes}
-use Rattle.model.specs.Run.{rowAt, startRows, fresh, moveAt, stop, after, judge, recordRefusal, advance, reach, records, startOf, reached, runRefusal, runOf, Progress, Progress.going, Progress.stopped}
+use Rattle.model.specs.Run.{rowAt, startRows, fresh, moveAt, stop, after, judge, recordRefusal, advance, follow, runOn, records, startOf, reached, runRefusal, runOf, Progress, Progress.going, Progress.stopped}
 use Rattle.model.specs.Counts.{howMany}
 use Rattle.model.specs.Claims.{At, Inside, Occupies, Decides, Proposed, movesIn, latesIn, shown}
 use Rattle.model.specs.Report.{line, lines, reportOf, outcomeOf, ranOf}
@@ -31,10 +31,10 @@ trace i = getD cases i (refused [] 0 0) .trace
 -- where its first k records lead
 abbrev stateOf : List ℕ → Progress → State
 stateOf s (going x) = x
-stateOf s (stopped y j) = startOf s
+stateOf s (stopped y j) = startOf mostProcesses s
 
 abbrev led : ℕ → ℕ → State
-led i k = stateOf (trace i) (reached (trace i) k)
+led i k = stateOf (trace i) (reached mostProcesses (trace i) k)
 
 -- a list of bytes is one by a computed test
 abbrev small : List ℕ → Bool
@@ -54,34 +54,34 @@ all-bytes (x ∷ xs) h (suc j) = all-bytes xs (both (ltb x 256) (small xs) h .1)
 abbrev old : ℕ → List ℕ
 old n = replicate n 7
 
-at : (i k : ℕ) → T (small (trace i)) → setupRefusal mostProcesses (trace i) ≡ 0 → reached (trace i) k ≡ going (led i k) → At (trace i) k (led i k)
+at : (i k : ℕ) → T (small (trace i)) → setupRefusal mostProcesses (trace i) ≡ 0 → reached mostProcesses (trace i) k ≡ going (led i k) → At mostProcesses (trace i) k (led i k)
 at i k b s e = record { bytes = all-bytes (trace i) b; setup = s; led = e }
 
 -- THE POINTS, by the theorem that each is for
 
 pub record Witnessed : Type 0 where
   -- exclusion, with two inside: P9; and with one that crashed inside
-  pub two-inside : At (trace 8) 11 (led 8 11) × Occupies (led 8 11) 0 0 × Occupies (led 8 11) 1 1
-  pub crashed-inside : At (trace 16) 6 (led 16 6) × Inside (led 16 6) 0 0 × (rowAt (led 16 6) 0 .crashed ≡ true)
+  pub two-inside : At mostProcesses (trace 8) 11 (led 8 11) × Occupies (led 8 11) 0 (slotOf 0) × Occupies (led 8 11) 1 (slotOf 1)
+  pub crashed-inside : At mostProcesses (trace 16) 6 (led 16 6) × Inside (led 16 6) 0 (slotOf 0) × (rowAt (led 16 6) 0 .crashed ≡ true)
   -- leaving: the next record is a move out of the section, and the slot is empty then
-  pub leaves : At (trace 17) 5 (led 17 5) × Inside (led 17 5) 0 0 × At (trace 17) 6 (led 17 6) × (valueAt (led 17 6 .bank) (slotOf 0) ≡ 0)
+  pub leaves : At mostProcesses (trace 17) 5 (led 17 5) × Inside (led 17 5) 0 (slotOf 0) × At mostProcesses (trace 17) 6 (led 17 6) × (valueAt (led 17 6 .bank) (slotOf 0) ≡ 0)
   -- agreement and validity: P5, where process 1 decides the proposal of process 2, and the other later; P10, without a wait
-  pub first-decides : At (trace 4) 7 (led 4 7) × Decides (led 4 7) 0 2 × Proposed (trace 4) (led 4 7) 2
-  pub both-decide : At (trace 4) 10 (led 4 10) × Decides (led 4 10) 0 2 × Decides (led 4 10) 1 2
-  pub decides-at-once : At (trace 9) 6 (led 9 6) × Decides (led 9 6) 0 2
+  pub first-decides : At mostProcesses (trace 4) 7 (led 4 7) × Decides (led 4 7) 0 2 × Proposed (trace 4) (led 4 7) 2
+  pub both-decide : At mostProcesses (trace 4) 10 (led 4 10) × Decides (led 4 10) 0 2 × Decides (led 4 10) 1 2
+  pub decides-at-once : At mostProcesses (trace 9) 6 (led 9 6) × Decides (led 9 6) 0 2
   -- the bounds, reached: P2; one late write and seven moves; P11, with b = 2
-  pub plain-bound : At (trace 1) 5 (led 1 5) × (byte 2 (trace 1) ≡ 2) × (movesIn (trace 1) 0 5 ≡ 5) × (latesIn (trace 1) 0 5 ≡ 0)
-  pub plain-bound-late : At (trace 15) 7 (led 15 7) × (byte 2 (trace 15) ≡ 2) × (movesIn (trace 15) 0 7 ≡ 7) × (latesIn (trace 15) 0 7 ≡ 1)
-  pub fast-bound : At (trace 10) 8 (led 10 8) × (byte 2 (trace 10) ≡ 3) × (byte 4 (trace 10) ≡ 2) × (movesIn (trace 10) 0 8 ≡ 7) × (latesIn (trace 10) 0 8 ≡ 0)
+  pub plain-bound : At mostProcesses (trace 1) 5 (led 1 5) × (byte 2 (trace 1) ≡ 2) × (movesIn (trace 1) 0 5 ≡ 5) × (latesIn mostProcesses (trace 1) 0 5 ≡ 0)
+  pub plain-bound-late : At mostProcesses (trace 15) 7 (led 15 7) × (byte 2 (trace 15) ≡ 2) × (movesIn (trace 15) 0 7 ≡ 7) × (latesIn mostProcesses (trace 15) 0 7 ≡ 1)
+  pub fast-bound : At mostProcesses (trace 10) 8 (led 10 8) × (byte 2 (trace 10) ≡ 3) × (byte 4 (trace 10) ≡ 2) × (movesIn (trace 10) 0 8 ≡ 7) × (latesIn mostProcesses (trace 10) 0 8 ≡ 0)
   -- the state that a refused run had reached: P1
-  pub refused-later : At (trace 0) 4 (led 0 4) × (runOf (trace 0) 8 ≡ stopped 16 5)
+  pub refused-later : At mostProcesses (trace 0) 4 (led 0 4) × (runOf mostProcesses (trace 0) 8 ≡ stopped 16 5)
   -- the report: P9's two rows with place 5, P6's two rows with place 8 and one of them at its bound
-  pub report-two-inside : (ranOf (trace 8) (old 8) .outcome .number ≡ 0) × (shown (trace 8) (old 8) 0 0 ≡ 5) × (shown (trace 8) (old 8) 1 0 ≡ 5)
-  pub report-decided : (ranOf (trace 5) (old 8) .outcome .number ≡ 0) × (shown (trace 5) (old 8) 0 0 ≡ 8) × (shown (trace 5) (old 8) 1 0 ≡ 8)
-  pub report-bound : (shown (trace 15) (old 8) 0 2 ≡ 7) × (shown (trace 15) (old 8) 0 3 ≡ 1) × (shown (trace 15) (old 8) 0 0 ≡ 8)
+  pub report-two-inside : (ranOf mostProcesses (trace 8) (old 8) .outcome .number ≡ 0) × (shown mostProcesses (trace 8) (old 8) 0 0 ≡ 5) × (shown mostProcesses (trace 8) (old 8) 1 0 ≡ 5)
+  pub report-decided : (ranOf mostProcesses (trace 5) (old 8) .outcome .number ≡ 0) × (shown mostProcesses (trace 5) (old 8) 0 0 ≡ 8) × (shown mostProcesses (trace 5) (old 8) 1 0 ≡ 8)
+  pub report-bound : (shown mostProcesses (trace 15) (old 8) 0 2 ≡ 7) × (shown mostProcesses (trace 15) (old 8) 0 3 ≡ 1) × (shown mostProcesses (trace 15) (old 8) 0 0 ≡ 8)
 
 pub witnesses : Witnessed
-unfolding freshBank afterRead afterWrite badKind badSize badStart setupRefusal stepRefusal startRows fresh moveAt stop after judge recordRefusal advance reach records runRefusal runOf line lines reportOf outcomeOf ranOf howMany
+unfolding afterRead afterWrite badKind badSize badStart setupRefusal stepRefusal startRows fresh moveAt stop after judge recordRefusal advance follow runOn records runRefusal line lines reportOf outcomeOf ranOf howMany
 witnesses =
     record {
       two-inside = (at 8 11 tt refl refl, ((refl, refl), refl), ((refl, refl), refl));

@@ -4,7 +4,7 @@ use mathlib.Core.Path.{_≡_}
 use mathlib.Core.Logic.{_≢_}
 use mathlib.Core.List.{List}
 use lib.ListN.{length, getD}
-use Rattle.terms.specs.Limits.{mostProcesses, mostSlots, mostSteps, topWait, unlimited}
+use Rattle.terms.specs.Limits.{mostSlots, mostSteps, topWait, unlimited}
 use Rattle.model.specs.declared.Shape.{Shape}
 use Rattle.model.specs.declared.Row.{Row}
 use Rattle.model.specs.declared.Ask.{Ask}
@@ -17,19 +17,18 @@ Bytes s = (j : ℕ) → getD s j 0 < 256
 -- what an accepted setup says of the shape
 pub record Sound (u : Shape) : Type 0 where
   pub some : 1 ≤ u .count
-  pub few : u .count ≤ mostProcesses
   pub sized : 1 ≤ u .size
   pub slim : u .size ≤ mostSlots
   pub bounded : u .delta ≤ topWait
 
--- and of the start bytes, which stand in 32 places
+-- and of the start bytes: one for each process, or more
 abbrev pub startOk : Routine → ℕ → ℕ → Type 0
-startOk Routine.Lock size x = x < size
+startOk (Routine.Lock how) size x = x < size
 startOk Routine.Plain size x = (1 ≤ x) × (x ≤ size)
 startOk Routine.Fast size x = (1 ≤ x) × (x ≤ size)
 
 pub record Starts (u : Shape) (xs : List ℕ) : Type 0 where
-  pub long : length xs ≡ mostProcesses
+  pub few : u .count ≤ length xs
   pub each : (j : ℕ) → j < u .count → startOk (routine u) (u .size) (getD xs j 0)
 
 -- the register, the wait, the flag of an operation are there

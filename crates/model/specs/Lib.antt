@@ -1,4 +1,5 @@
 pub mod Sizes
+pub mod Places
 pub mod Time
 pub mod Routine
 pub mod Memory

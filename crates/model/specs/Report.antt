@@ -4,15 +4,14 @@ use mathlib.Core.Bool.{cond}
 use mathlib.Core.List.{List, [], _∷_, _++_}
 use lib.ListN.{length, getD}
 use Rattle.terms.specs.Overlay.{overlay}
-use Rattle.setups.specs.Setup.{setupFields}
 use Rattle.model.specs.declared.Place.{Place}
 use Rattle.model.specs.declared.Shape.{Shape}
 use Rattle.model.specs.declared.Row.{Row}
 use Rattle.model.specs.declared.Outcome.{Outcome}
 use Rattle.model.specs.Routine.{Routine, routine}
-use Rattle.model.specs.Run.{blank, Progress, Progress.going, Progress.stopped, shapeOf, restOf, records, runOf}
+use Rattle.model.specs.Run.{blank, Progress, Progress.going, Progress.stopped, shape, restOf, records, runOf}
 
--- the number of a place
+-- what the report shows of a place
 abbrev pub shownOf : Place → ℕ
 shownOf Place.Rest = 0
 shownOf Place.Look = 1
@@ -30,7 +29,7 @@ shownPlace r = cond (r .crashed) 9 (shownOf (r .local .place))
 
 -- the second number: c for a lock, else the decided value
 abbrev pub figureOf : Routine → Row → ℕ
-figureOf Routine.Lock r = r .local .slot .0
+figureOf (Routine.Lock how) r = r .local .slot .0
 figureOf Routine.Plain r = r .local .decided
 figureOf Routine.Fast r = r .local .decided
 
@@ -57,10 +56,10 @@ pub record Ran : Type 0 where
   pub outcome : Outcome
   pub report : List ℕ
 
--- what a run of a trace returns, and what it leaves in a report that held `old`
-unfoldable pub ranOf : List ℕ → List ℕ → Ran
-ranOf trace old =
+-- what a run of a trace for up to `most` processes returns, and what it leaves in a report that held `old`
+unfoldable pub ranOf : ℕ → List ℕ → List ℕ → Ran
+ranOf most trace old =
     record {
-      outcome = outcomeOf (records (restOf trace)) (runOf trace (length old));
-      report = reportOf (shapeOf (setupFields trace)) old (runOf trace (length old));
+      outcome = outcomeOf (records (restOf trace)) (runOf most trace (length old));
+      report = reportOf (shape trace) old (runOf most trace (length old));
     }

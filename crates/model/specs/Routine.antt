@@ -4,6 +4,7 @@ use Prim.Native.Nat.{ℕ, _+_, _%_}
 use mathlib.Core.Bool.{Bool, true, false, cond}
 use lib.Dec.{eqb, leb}
 use Rattle.terms.specs.Limits.{unlimited}
+use Rattle.terms.specs.declared.SlotNumber.{SlotNumber}
 use Rattle.terms.specs.Numbers.{slotOf}
 use Rattle.model.specs.declared.Place.{Place}
 use Rattle.model.specs.declared.Kind.{Kind}
@@ -13,14 +14,32 @@ use Rattle.model.specs.declared.Row.{Row}
 use Rattle.model.specs.declared.Ask.{Ask}
 use Rattle.model.specs.declared.Reply.{Reply}
 
--- The routines behind the kinds. A further kind of lock has the lock's routine, with slots of its own.
+-- The slots that a lock's process takes: when it leaves rest, when it finds its slot filled, when it loses its check.
+pub record Slots : Type 0 where
+  pub leave : SlotNumber
+  pub filled : SlotNumber
+  pub lost : SlotNumber
+
+-- How a kind of lock chooses them. A further kind of lock is a rule more, with its clause of `slotsOf`.
+pub data SlotRule : Type 0 where
+  Ring : SlotRule
+
+-- the next slot round
+abbrev pub around : Shape → Local → SlotNumber
+around u x = slotOf ((x .slot .0 + 1) % u .size)
+
+-- kind 1: the next one round when it finds its slot filled, else the same
+abbrev pub slotsOf : SlotRule → Shape → Local → Slots
+slotsOf SlotRule.Ring u x = record { leave = x .slot; filled = around u x; lost = x .slot }
+
+-- The routines behind the kinds. Only a lock has slots to choose.
 pub data Routine : Type 0 where
-  Lock : Routine
+  Lock : SlotRule → Routine
   Plain : Routine
   Fast : Routine
 
 abbrev pub routineOf : Kind → Routine
-routineOf Kind.Lock = Routine.Lock
+routineOf Kind.Lock = Routine.Lock SlotRule.Ring
 routineOf Kind.Plain = Routine.Plain
 routineOf Kind.Fast = Routine.Fast
 
@@ -56,8 +75,8 @@ told Place.Decided r a = true
 abbrev pub to : Place → Local → Local
 to p x = record { place = p; slot = x .slot; decided = x .decided; wake = x .wake; scan = x .scan }
 
-abbrev pub on : ℕ → Local → Local
-on c x = record { place = x .place; slot = slotOf c; decided = x .decided; wake = x .wake; scan = x .scan }
+abbrev pub on : SlotNumber → Local → Local
+on c x = record { place = x .place; slot = c; decided = x .decided; wake = x .wake; scan = x .scan }
 
 abbrev pub until : ℕ → Local → Local
 until w x = record { place = x .place; slot = x .slot; decided = x .decided; wake = w; scan = x .scan }
@@ -67,24 +86,6 @@ decides v x = record { place = x .place; slot = x .slot; decided = v; wake = x .
 
 abbrev pub scans : ℕ → Local → Local
 scans v x = record { place = x .place; slot = x .slot; decided = x .decided; wake = x .wake; scan = v }
-
--- The slots that a lock's process takes: when it leaves rest, when it finds its slot filled, when it loses its check.
-pub record Slots : Type 0 where
-  pub leave : ℕ
-  pub filled : ℕ
-  pub lost : ℕ
-
-abbrev pub around : Shape → Local → ℕ
-around u x = (x .slot .0 + 1) % u .size
-
--- kind 1: the next one round when it finds its slot filled, else the same
-abbrev pub slotsOf : Kind → Shape → Local → Slots
-slotsOf Kind.Lock u x = record { leave = x .slot .0; filled = around u x; lost = x .slot .0 }
-slotsOf Kind.Plain u x = record { leave = x .slot .0; filled = around u x; lost = x .slot .0 }
-slotsOf Kind.Fast u x = record { leave = x .slot .0; filled = around u x; lost = x .slot .0 }
-
-abbrev pub slots : Shape → Local → Slots
-slots u x = slotsOf (u .kind) u x
 
 -- TAKE. b is what the process learnt, v the value that it read, w the end of a wait that begins now.
 
@@ -138,7 +139,7 @@ fastNext size own Place.Scan false v w x = to Place.Wait x  -- fig. 8, line 3
 fastNext size own Place.Decided b v w x = x
 
 abbrev pub nextOf : Routine → Shape → ℕ → Place → Bool → ℕ → ℕ → Local → Local
-nextOf Routine.Lock u own p b v w x = lockNext (slots u x) p b w x
+nextOf (Routine.Lock how) u own p b v w x = lockNext (slotsOf how u x) p b w x
 nextOf Routine.Plain u own p b v w x = plainNext p b v w x
 nextOf Routine.Fast u own p b v w x = fastNext (u .size) own p b v w x
 
@@ -155,10 +156,10 @@ abbrev pub crash : Row → Row
 crash r = record { local = r .local; own = r .own; moves = r .moves; lates = r .lates; crashed = true }
 
 -- BEGIN: a process that has not moved, at place p with slot c, that writes v
-abbrev pub unmoved : Place → ℕ → ℕ → Row
+abbrev pub unmoved : Place → SlotNumber → ℕ → Row
 unmoved p c v =
     record {
-      local = record { place = p; slot = slotOf c; decided = 0; wake = 0; scan = 0 };
+      local = record { place = p; slot = c; decided = 0; wake = 0; scan = 0 };
       own = v;
       moves = 0;
       lates = 0;
@@ -167,9 +168,9 @@ unmoved p c v =
 
 -- the row at index j, of a process with start byte x
 abbrev pub begin : Routine → ℕ → ℕ → Row
-begin Routine.Lock j x = unmoved Place.Rest x (j + 1)
-begin Routine.Plain j x = unmoved Place.Look 0 x
-begin Routine.Fast j x = unmoved Place.Flag 0 x
+begin (Routine.Lock how) j x = unmoved Place.Rest (slotOf x) (j + 1)
+begin Routine.Plain j x = unmoved Place.Look (slotOf 0) x
+begin Routine.Fast j x = unmoved Place.Flag (slotOf 0) x
 
 abbrev pub isDecided : Place → Bool
 isDecided Place.Rest = false

@@ -3,9 +3,9 @@ use Prim.Native.Nat.{ℕ, _+_}
 use mathlib.Core.Bool.{Bool}
 use lib.Dec.{ltb}
 
--- a tick below the last accepted one; equal ticks are accepted
+-- a tick below the newest accepted one; equal ticks are accepted
 abbrev pub early : ℕ → ℕ → Bool
-early last t = ltb t last
+early newest t = ltb t newest
 
 -- the least tick at which a process may move whose wait began at t: the first above t + Δ
 abbrev pub wakeAt : ℕ → ℕ → ℕ

@@ -15,6 +15,9 @@ pub const LINE: usize = 4;
 
 pub const REPORT: usize = LINE * Trace::PROCESSES as usize;
 
+// The rows of a run, and its start bytes.
+pub const ROWS: usize = Trace::PROCESSES as usize;
+
 // The flag of value v stands at v; entry 0 is not used.
 pub const FLAGS: usize = Trace::SLOTS as usize + 1;
 
@@ -71,12 +74,12 @@ pub struct Shared {
     pub flags: [bool; FLAGS],
 }
 
-// The state of a run. Its last tick is that of the last accepted step; the bank's moves with reads and writes only.
+// The state of a run. `newest` is the tick of the newest accepted step; the bank's last tick moves with reads and writes only.
 pub struct State {
-    pub rows: [Row; 32],
+    pub rows: [Row; ROWS],
     pub bank: Bank,
     pub shared: Shared,
-    pub last: u32,
+    pub newest: u32,
 }
 
 // The one operation of memory at a move: none; a read with a wait; a write; a flag set, or read.
@@ -102,13 +105,13 @@ pub struct Outcome {
 
 impl Row {
     // A process that has not moved, at its place with slot c, that writes `own`.
-    fn unmoved(place: Place, c: u32, own: u32) -> Self
+    fn unmoved(place: Place, c: SlotNumber, own: u32) -> Self
         ensures { λ r. ⌜ r ≡ Rattle.model.specs.Routine.unmoved place c own ⌝ }
     {
         Row {
             local: Local {
                 place,
-                slot: SlotNumber(c),
+                slot: c,
                 decided: 0,
                 wake: 0,
                 scan: 0,
@@ -127,22 +130,22 @@ impl Row {
     {
         let start = x as u32;
         match kind {
-            Kind::Lock => Row::unmoved(Place::Rest, start, j + 1),
-            Kind::Plain => Row::unmoved(Place::Look, 0, start),
-            Kind::Fast => Row::unmoved(Place::Flag, 0, start),
+            Kind::Lock => Row::unmoved(Place::Rest, SlotNumber(start), j + 1),
+            Kind::Plain => Row::unmoved(Place::Look, SlotNumber(0), start),
+            Kind::Fast => Row::unmoved(Place::Flag, SlotNumber(0), start),
         }
     }
 }
 
 impl State {
     // The rows at the start: where the kind begins, and blank past the last process.
-    fn start_rows(shape: Shape, starts: [u8; 32]) -> [Row; 32]
+    fn start_rows(shape: Shape, starts: [u8; ROWS]) -> [Row; ROWS]
         ensures { λ rows. ⌜ rows ≡ startRows shape 0 starts ⌝ }
     {
         let kind = shape.kind;
-        let mut rows = [Row::unmoved(Place::Rest, 0, 0); 32];
+        let mut rows = [Row::unmoved(Place::Rest, SlotNumber(0), 0); ROWS];
         let mut j: usize = 0;
-        while j < 32 {
+        while j < ROWS {
             if shape.count <= j as u32 {
                 return rows;
             }
@@ -153,7 +156,7 @@ impl State {
     }
 
     // The state at the start of a run.
-    pub fn fresh(shape: Shape, starts: [u8; 32]) -> Self
+    pub fn fresh(shape: Shape, starts: [u8; ROWS]) -> Self
         ensures { λ s. ⌜ s ≡ Rattle.model.specs.Run.fresh shape starts ⌝ }
     {
         let rows = State::start_rows(shape, starts);
@@ -164,7 +167,7 @@ impl State {
             shared: Shared {
                 flags: [false; FLAGS],
             },
-            last: 0,
+            newest: 0,
         }
     }
 }

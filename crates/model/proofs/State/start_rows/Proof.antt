@@ -1,5 +1,6 @@
 -- `model::State::start_rows` meets its contract. The first j rows begin, the others are blank.
 -- Assumes nothing.
+use Rattle.terms.specs.Limits.{mostProcesses}
 use Rattle.model.proofs.StartLaws.{Filled, filled-none, filled-more, filled-done}
 use borrow.Author.Needs.{needs}
 use native.Mathlib.Omega.{arith}
@@ -8,10 +9,10 @@ use Rattle.model.proofs.State.start_rows.Statement.{statement}
 use Rattle.model.proofs.State.start_rows.Tie as tie
 
 abbrev Inv-loop : tie.InvT-loop
-Inv-loop shape starts kind rows₀ j₀ rows j = (j ≤ 32) × Filled shape starts j rows
+Inv-loop shape starts kind rows₀ j₀ rows j = (j ≤ mostProcesses) × Filled shape starts j rows
 
 abbrev μ-loop : tie.MeasureT-loop
-μ-loop shape starts kind rows₀ j₀ rows j = 32 - j
+μ-loop shape starts kind rows₀ j₀ rows j = mostProcesses - j
 
 loop-holds : tie.Need-loop-holds Inv-loop μ-loop
 loop-holds c = let a = c .before .args in (search needs, filled-none (a .shape) (a .t2) (c .unmoved .result) (c .unmoved .ensures))
