@@ -3,7 +3,7 @@
 fn main() {
     let mut input = [0; listing::MOST_INPUT + 1];
     let taken = io::read_full(0, &mut input);
-    let mut text = [0; 2048];
+    let mut text = [0; listing::TEXT];
     let len = listing::list(&input[..taken], &mut text);
     io::write_all(1, &text[..len]);
 }

@@ -5,7 +5,9 @@ use mathlib.Core.Bool.{Bool, cond}
 use mathlib.Core.List.{List}
 use Rattle.terms.specs.declared.ProcessNumber.{ProcessNumber}
 use Rattle.terms.specs.Limits.{mostProcesses, topTick}
+use Rattle.terms.specs.Refusal.{ifAccepted}
 use Rattle.bank.specs.declared.Bank.{Bank}
+use Rattle.bank.specs.Registers.{bankOf}
 use Rattle.steps.specs.declared.Step.{Step}
 use Rattle.model.specs.declared.Place.{Place}
 use Rattle.model.specs.declared.Shape.{Shape}
@@ -13,11 +15,14 @@ use Rattle.model.specs.declared.Row.{Row}
 use Rattle.model.specs.declared.Ask.{Ask}
 use Rattle.model.specs.declared.Reply.{Reply}
 use Rattle.model.specs.declared.Shared.{Shared}
+use Rattle.model.specs.declared.State.{State}
+use Rattle.model.specs.declared.Outcome.{Outcome}
 use Rattle.model.specs.Time.{wakeAt}
 use Rattle.model.specs.Routine.{askAt, rowAfter, crash}
 use Rattle.model.specs.Memory.{Answered, bankAfter, sharedAfter, answerOf}
-use Rattle.model.specs.Run.{Progress, isMove, fresh, reach, records}
-use Rattle.rows.specs.Rows.{rowIn, Changed}
+use Rattle.model.specs.Bounds.{Starts}
+use Rattle.model.specs.Run.{Progress, Progress.going, Progress.stopped, isMove, fresh, reach, records}
+use Rattle.rows.specs.Rows.{rowIn, rowsIn, Changed}
 use Rattle.model.specs.Report.{Ran, outcomeOf, reportOf}
 
 -- a process that there may be
@@ -53,6 +58,32 @@ pub record Moved (u : Shape) (p : Place) (i : ProcessNumber) (t j : ℕ) (old ne
   pub rows : Changed j (λ r. rowAfter u p (wakeAt (u .delta) t) r (answerOf b m i t (askAt p (u .delta) r) .reply)) old new
   pub bank : b′ ≡ bankAfter b i t (askAt p (u .delta) (rowIn old j))
   pub shared : m′ ≡ sharedAfter m (askAt p (u .delta) (rowIn old j))
+
+-- A RUN IN PLACE
+
+-- the parts of a state that are lent, its rows as numbers; and the state that they are
+pub record Parts : Type 0 where
+  pub rows : List ℕ
+  pub values : List ℕ
+  pub deadlines : List ℕ
+  pub last : ℕ
+  pub flags : List Bool
+  pub newest : ℕ
+
+abbrev pub stateIn : Parts → State
+stateIn p =
+    record { rows = rowsIn (p .rows); bank = bankOf (p .values) (p .deadlines) (p .last); shared = sharedOf (p .flags); last = p .newest }
+
+-- a state that a run begins with
+pub record Begins (u : Shape) (x : State) : Type 0 where
+  pub bytes : List ℕ
+  pub starts : Starts u bytes
+  pub fresh : x ≡ fresh u bytes
+
+-- what the records of `rest` return and leave, from the state x on: where all are accepted, the state that they led to
+pub record Walked (u : Shape) (x : State) (rest : List ℕ) (r : Outcome) (left : Parts) : Type 0 where
+  pub led : reach u x rest (records rest) ≡ ifAccepted (r .number) (going (stateIn left)) (stopped (r .number) (r .at))
+  pub counted : r .number ≡ 0 → r .at ≡ records rest
 
 -- what the records of `rest` return and leave, from the fresh state on
 abbrev pub ranFrom : Shape → List ℕ → List ℕ → List ℕ → Ran

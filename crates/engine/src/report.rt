@@ -1,13 +1,17 @@
-// The report: a line of four numbers a process.
+// The report: a line of numbers a process.
 ghost use mathlib.Core.Path.{_≡_};
 ghost use mathlib.Core.List.{_++_};
-ghost use Prim.Native.Nat.{_+_, _≤_};
+ghost use Prim.Native.Nat.{_+_, _*_, _≤_};
 ghost use lib.ListN.{length, take, drop};
-ghost use Rattle.model.specs.Routine.{routineOf};
+ghost use Rattle.terms.specs.Limits.{mostProcesses};
+ghost use Rattle.terms.specs.Overlay.{overlay};
+ghost use Rattle.model.specs.Routine.{routineOf, routine};
 ghost use Rattle.model.specs.Sizes.{lineWidth};
-ghost use Rattle.model.specs.Report.{shownPlace, figureOf, line};
-ghost use Rattle.rows.specs.Rows.{rowIn, Inside};
+ghost use Rattle.model.specs.Report.{shownPlace, figureOf, line, lines};
+ghost use Rattle.rows.specs.Rows.{rowIn, rowsIn, Inside};
 use model::Kind;
+use model::LINE;
+use model::Shape;
 
 fn shown_place(j: usize, rows: &[u32; 288]) -> u32
     requires { ⌜ Inside j ⌝ }
@@ -40,4 +44,18 @@ pub fn write_line(kind: Kind, j: usize, rows: &[u32; 288], at: usize, report: &m
     report[at + 1] = figure(kind, j, rows);
     report[at + 2] = rows::moves(j, rows);
     report[at + 3] = rows::lates(j, rows);
+}
+
+// The lines of all processes, over the report's first numbers.
+pub fn write_lines(shape: Shape, rows: &[u32; 288], report: &mut [u32])
+    requires { ⌜ shape .count ≤ mostProcesses ⌝ }
+    requires { ⌜ lineWidth * shape .count ≤ length (now report) ⌝ }
+    ensures { λ _. ⌜ now (report .exit) ≡ overlay (lines (routine shape) (rowsIn (now (rows .entry))) (shape .count)) (now (report .entry)) ⌝ }
+{
+    let kind = shape.kind;
+    let mut j: usize = 0;
+    while j < shape.count as usize {
+        write_line(kind, j, rows, j * LINE, report);
+        j = j + 1;
+    }
 }

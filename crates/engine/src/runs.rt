@@ -1,13 +1,14 @@
 // The run: a trace's records one after the other, with the state in place; and the entry point.
 ghost use mathlib.Core.Path.{_≡_};
 ghost use Prim.Native.Nat.{_*_, _≤_};
-ghost use lib.ListN.{length};
-ghost use Rattle.terms.specs.Limits.{mostSteps};
+ghost use lib.ListN.{length, replicate};
+ghost use Rattle.terms.specs.Limits.{mostProcesses, mostSteps};
 ghost use Rattle.model.specs.Bounds.{Sound, Starts};
 ghost use Rattle.model.specs.Sizes.{lineWidth};
-ghost use Rattle.model.specs.Run.{shapeOf, kindOf};
+ghost use Rattle.model.specs.Run.{startRows, shapeOf, kindOf};
 ghost use Rattle.model.specs.Report.{ranOf};
-ghost use Rattle.engine.specs.Stepped.{ranFrom};
+ghost use Rattle.rows.specs.Rows.{Whole, rowsIn};
+ghost use Rattle.engine.specs.Stepped.{stateIn, Begins, Walked, ranFrom};
 use crate::moves;
 use crate::report;
 use model::FLAGS;
@@ -21,27 +22,42 @@ use steps::Step;
 use terms::Trace;
 use terms::Wait;
 
-// The records of `rest`, from the fresh state on.
-fn run_steps(shape: Shape, starts: [u8; 32], rest: &[u8], report: &mut [u32]) -> Outcome
-    requires { ⌜ Sound shape ⌝ }
-    requires { ⌜ Starts shape starts ⌝ }
-    requires { ⌜ length (now rest) ≤ 8 * mostSteps ⌝ }
-    requires { ⌜ lineWidth * shape .count ≤ length (now report) ⌝ }
-    ensures { λ r. ⌜ record { outcome = r; report = now (report .exit) } ≡ ranFrom shape starts (now (rest .entry)) (now (report .entry)) ⌝ }
+// Every process begins, in rows that are blank.
+fn begin_rows(shape: Shape, starts: [u8; 32], rows: &mut [u32; 288])
+    requires { ⌜ shape .count ≤ mostProcesses ⌝ }
+    requires { ⌜ now rows ≡ replicate 288 0 ⌝ }
+    ensures { λ _. ⌜ Whole (now (rows .exit)) ⌝ }
+    ensures { λ _. ⌜ rowsIn (now (rows .exit)) ≡ startRows shape 0 starts ⌝ }
 {
     let kind = shape.kind;
-    let n = shape.count as usize;
-    let mut rows = [0u32; 288];
-    let mut made: usize = 0;
-    while made < n {
-        rows::begin(kind, starts[made], made, &mut rows);
-        made = made + 1;
+    let mut j: usize = 0;
+    while j < shape.count as usize {
+        rows::begin(kind, starts[j], j, rows);
+        j = j + 1;
     }
-    let mut values = [0u32; 8];
-    let mut deadlines = [Wait::UNLIMITED; 256];
-    let mut touched: u32 = 0;
-    let mut flags = [false; FLAGS];
-    let mut last: u32 = 0;
+}
+
+// The records of `rest`, one after the other: the lent parts are the state that a run begins with, and then the state that the records left.
+fn take_records(
+    shape: Shape,
+    rest: &[u8],
+    rows: &mut [u32; 288],
+    values: &mut [u32; 8],
+    deadlines: &mut [u32; 256],
+    last: &mut u32,
+    flags: &mut [bool; FLAGS],
+    newest: &mut u32,
+) -> Outcome
+    requires { ⌜ Sound shape ⌝ }
+    requires { ⌜ shape .count ≤ mostProcesses ⌝ }
+    requires { ⌜ length (now rest) ≤ 8 * mostSteps ⌝ }
+    requires { ⌜ Whole (now rows) ⌝ }
+    requires { ⌜ Begins shape (stateIn (record { rows = now rows; values = now values; deadlines = now deadlines; last = now last; flags = now flags; newest = now newest })) ⌝ }
+    ensures { λ r. ⌜ Walked shape
+        (stateIn (record { rows = now (rows .entry); values = now (values .entry); deadlines = now (deadlines .entry); last = now (last .entry); flags = now (flags .entry); newest = now (newest .entry) }))
+        (now (rest .entry)) r
+        (record { rows = now (rows .exit); values = now (values .exit); deadlines = now (deadlines .exit); last = now (last .exit); flags = now (flags .exit); newest = now (newest .exit) }) ⌝ }
+{
     let mut at: usize = 0;
     let mut k: u32 = 0;
     while at < rest.len() {
@@ -56,29 +72,47 @@ fn run_steps(shape: Shape, starts: [u8; 32], rest: &[u8], report: &mut [u32]) ->
         }
         let step = read.step;
         let j = (step.process.0 - 1) as usize;
-        let no = judges::judge(j, &rows, last, step);
+        let no = judges::judge(j, rows, *newest, step);
         if no != 0 {
             return Outcome { number: no, at: k };
         }
-        moves::take_step(
-            shape,
-            step,
-            j,
-            &mut rows,
-            &mut values,
-            &mut deadlines,
-            &mut touched,
-            &mut flags,
-        );
-        last = step.tick;
+        moves::take_step(shape, step, j, rows, values, deadlines, last, flags);
+        *newest = step.tick;
         at = at + 8;
     }
-    let mut j: usize = 0;
-    while j < n {
-        report::write_line(kind, j, &rows, j * LINE, report);
-        j = j + 1;
-    }
     Outcome { number: 0, at: k }
+}
+
+// A run of the records of `rest`, from its fresh state to its report.
+fn run_steps(shape: Shape, starts: [u8; 32], rest: &[u8], report: &mut [u32]) -> Outcome
+    requires { ⌜ Sound shape ⌝ }
+    requires { ⌜ Starts shape starts ⌝ }
+    requires { ⌜ length (now rest) ≤ 8 * mostSteps ⌝ }
+    requires { ⌜ lineWidth * shape .count ≤ length (now report) ⌝ }
+    ensures { λ r. ⌜ record { outcome = r; report = now (report .exit) } ≡ ranFrom shape starts (now (rest .entry)) (now (report .entry)) ⌝ }
+{
+    let mut rows = [0u32; 288];
+    begin_rows(shape, starts, &mut rows);
+    let mut values = [0u32; 8];
+    let mut deadlines = [Wait::UNLIMITED; 256];
+    let mut last: u32 = 0;
+    let mut flags = [false; FLAGS];
+    let mut newest: u32 = 0;
+    let outcome = take_records(
+        shape,
+        rest,
+        &mut rows,
+        &mut values,
+        &mut deadlines,
+        &mut last,
+        &mut flags,
+        &mut newest,
+    );
+    if outcome.number != 0 {
+        return outcome;
+    }
+    report::write_lines(shape, &rows, report);
+    outcome
 }
 
 fn kind_of(k: u8) -> Kind

@@ -14,12 +14,13 @@ use lib.ListN.{length, take, drop, set, length-append, length-take, length-drop,
 use lib.Seq.{take-length, take-append-seam, drop-append-add, drop-drop, set-split}
 use Rattle.terms.proofs.Parts.{part-to-end}
 use Rattle.listing.specs.Put.{spliced, Put}
-use Rattle.listing.specs.Text.{digits, decimal, processLine, processLines}
+use Rattle.listing.specs.Text.{zeroDigit, mostDigits, digits, decimal, processLine, processLines}
 
 -- PIECES
 
 -- what is put past the front of a buffer leaves the front
-past-front : (front piece s : List ℕ) → spliced (length front) piece (front ++ drop (length front) s) ≡ front ++ (piece ++ drop (length front + length piece) s)
+past-front : (front piece s : List ℕ)
+    → spliced (length front) piece (front ++ drop (length front) s) ≡ front ++ (piece ++ drop (length front + length piece) s)
 unfolding spliced
 past-front front piece s = rw (take-append-seam, drop-append-add, drop-drop)
 
@@ -28,7 +29,9 @@ unfolding spliced
 spliced-then at a b s h =
     let front : length (take at s ++ a) ≡ at + length a = simp (length-append, length-take) (omega arith) in
     let whole : at + length (a ++ b) ≡ at + length a + length b = omega (arith, length-append a b) in
-    rw (whole, ← append-assoc (take at s) a (drop (at + length a) s), ← front, append-assoc a b) (past-front (take at s ++ a) b s ∙ append-assoc (take at s) a (b ++ drop (length (take at s ++ a) + length b) s))
+    let after = b ++ drop (length (take at s ++ a) + length b) s in
+    rw (whole, ← append-assoc (take at s) a (drop (at + length a) s), ← front, append-assoc a b)
+    (past-front (take at s ++ a) b s ∙ append-assoc (take at s) a after)
 
 -- two pieces one after the other
 pub put-then : {m n at i j : ℕ} {a b s t u : List ℕ} → Put m at a s i t → Put n i b t j u → Put (m + n) at (a ++ b) s j u
@@ -89,11 +92,11 @@ digits-length zero x = omega arith
 digits-length (suc k) x = simp length-append (omega (arith, tenth-length (ltb x 10) k (digits k (x / 10)) (digits-length k (x / 10))))
 
 -- one digit is enough below 10, and k + 1 digits below 10 ^ (k + 1)
-digits-last : (k x : ℕ) → x < 10 → digits (suc k) x ≡ (48 + x % 10) ∷ []
+digits-last : (k x : ℕ) → x < 10 → digits (suc k) x ≡ (zeroDigit + x % 10) ∷ []
 unfolding digits
 digits-last k x h = rw (lt-ltb x 10 h)
 
-digits-more : (k x : ℕ) → 10 ≤ x → digits (suc k) x ≡ digits k (x / 10) ++ ((48 + x % 10) ∷ [])
+digits-more : (k x : ℕ) → 10 ≤ x → digits (suc k) x ≡ digits k (x / 10) ++ ((zeroDigit + x % 10) ∷ [])
 unfolding digits
 digits-more k x h = rw (le-ltb x 10 h)
 
@@ -102,12 +105,12 @@ unfolding digits
 digits-enough zero x h = rw (lt-ltb x 10 (omega arith))
 digits-enough (suc k) x h =
     let small : x / 10 < 10 ^ suc k = omega (arith, pow-suc 10 (suc k)) in
-    ap (λ (tenth : List ℕ). cond (ltb x 10) [] tenth ++ ((48 + x % 10) ∷ [])) (digits-enough k (x / 10) small)
+    ap (λ (tenth : List ℕ). cond (ltb x 10) [] tenth ++ ((zeroDigit + x % 10) ∷ [])) (digits-enough k (x / 10) small)
 
-pub decimal-length : (x : ℕ) → length (decimal x) ≤ 10
-decimal-length x = digits-length 10 x
+pub decimal-length : (x : ℕ) → length (decimal x) ≤ mostDigits
+decimal-length x = digits-length mostDigits x
 
-pub decimal-last : (x : ℕ) → x < 10 → (48 + x % 10) ∷ [] ≡ decimal x
+pub decimal-last : (x : ℕ) → x < 10 → (zeroDigit + x % 10) ∷ [] ≡ decimal x
 decimal-last x h = sym (digits-last 9 x h)
 
 -- the tenth of a 32-bit number has 9 digits at most
@@ -117,7 +120,7 @@ tenth-enough x h = digits-enough 8 (x / 10) (omega arith)
 pub decimal-tenth : (x : ℕ) → x < 2 ^ 32 → length (decimal (x / 10)) ≤ 9
 decimal-tenth x h = rw (← tenth-enough x h) (digits-length 9 (x / 10))
 
-pub decimal-more : (x : ℕ) → 10 ≤ x → x < 2 ^ 32 → decimal (x / 10) ++ ((48 + x % 10) ∷ []) ≡ decimal x
+pub decimal-more : (x : ℕ) → 10 ≤ x → x < 2 ^ 32 → decimal (x / 10) ++ ((zeroDigit + x % 10) ∷ []) ≡ decimal x
 decimal-more x h f = rw (← tenth-enough x f) (sym (digits-more 9 x h))
 
 -- LINES

@@ -1,16 +1,54 @@
--- The sample of 01, "The program": its input gives its three lines.
+-- The sample of 01, "The program", byte by byte; a refused trace; and an input that is too long. No definition makes these inputs and texts.
 -- Assumes nothing.
-use mathlib.Core.Path.{_≡_, refl}
-use mathlib.Core.List.{[], _∷_, _++_}
+use Prim.Native.Nat.{ℕ, _<_}
+use mathlib.Core.Path.{_≡_, refl, sym}
+use mathlib.Core.List.{List, [], _∷_}
+use lib.ListN.{length}
 use Rattle.bank.specs.Registers.{freshBank, afterRead, afterWrite}
 use Rattle.setups.specs.Setup.{badKind, badSize, badStart, setupRefusal}
 use Rattle.steps.specs.Step.{stepRefusal}
 use Rattle.model.specs.Run.{startRows, fresh, moveAt, stop, after, judge, recordRefusal, advance, reach, records, runRefusal, runOf}
 use Rattle.model.specs.Report.{line, lines, reportOf, outcomeOf, ranOf}
-use Rattle.model.specs.Traces.{plain, _moves_}
-use Rattle.listing.specs.Text.{digits, processLines, ranText, textOf, headLine, figures}
+use Rattle.listing.specs.Text.{digits, processLines, ranText, textOf}
+use Rattle.listing.proofs.TextLaws.{text-over}
 
-pub sample : textOf (plain ((1 moves 0) ∷ (1 moves 1) ∷ (1 moves 1) ∷ (1 moves 2) ∷ (1 moves 5) ∷ []))
-    ≡ headLine 2 2 5 ++ figures (1 ∷ 8 ∷ 1 ∷ 5 ∷ 0 ∷ []) ++ figures (2 ∷ 1 ∷ 0 ∷ 0 ∷ 0 ∷ [])
-unfolding freshBank afterRead afterWrite badKind badSize badStart setupRefusal stepRefusal startRows fresh moveAt stop after judge recordRefusal advance reach records runRefusal runOf line lines reportOf outcomeOf ranOf digits processLines ranText textOf
+-- 4F 53 02 02 02 00 02 00 01 02, and steps of process 1 at ticks 0, 1, 1, 2, 5
+abbrev input : List ℕ
+input =
+    0x4F ∷ 0x53 ∷ 0x02 ∷ 0x02 ∷ 0x02 ∷ 0x00 ∷ 0x02 ∷ 0x00 ∷ 0x01 ∷ 0x02
+    ∷ 0x4F ∷ 0x54 ∷ 0x01 ∷ 0x00 ∷ 0x00 ∷ 0x00 ∷ 0x00 ∷ 0x00
+    ∷ 0x4F ∷ 0x54 ∷ 0x01 ∷ 0x00 ∷ 0x01 ∷ 0x00 ∷ 0x00 ∷ 0x00
+    ∷ 0x4F ∷ 0x54 ∷ 0x01 ∷ 0x00 ∷ 0x01 ∷ 0x00 ∷ 0x00 ∷ 0x00
+    ∷ 0x4F ∷ 0x54 ∷ 0x01 ∷ 0x00 ∷ 0x02 ∷ 0x00 ∷ 0x00 ∷ 0x00
+    ∷ 0x4F ∷ 0x54 ∷ 0x01 ∷ 0x00 ∷ 0x05 ∷ 0x00 ∷ 0x00 ∷ 0x00
+    ∷ []
+
+abbrev text : List ℕ
+text =
+    -- `kind 2 processes 2 records 5`
+    0x6B ∷ 0x69 ∷ 0x6E ∷ 0x64 ∷ 0x20 ∷ 0x32 ∷ 0x20 ∷ 0x70 ∷ 0x72 ∷ 0x6F ∷ 0x63 ∷ 0x65 ∷ 0x73 ∷ 0x73 ∷ 0x65 ∷ 0x73 ∷ 0x20 ∷ 0x32
+    ∷ 0x20 ∷ 0x72 ∷ 0x65 ∷ 0x63 ∷ 0x6F ∷ 0x72 ∷ 0x64 ∷ 0x73 ∷ 0x20 ∷ 0x35 ∷ 0x0A
+    -- `1 8 1 5 0`
+    ∷ 0x31 ∷ 0x20 ∷ 0x38 ∷ 0x20 ∷ 0x31 ∷ 0x20 ∷ 0x35 ∷ 0x20 ∷ 0x30 ∷ 0x0A
+    -- `2 1 0 0 0`
+    ∷ 0x32 ∷ 0x20 ∷ 0x31 ∷ 0x20 ∷ 0x30 ∷ 0x20 ∷ 0x30 ∷ 0x20 ∷ 0x30 ∷ 0x0A
+    ∷ []
+
+pub sample : textOf input ≡ text
+unfolding freshBank afterRead afterWrite badKind badSize badStart setupRefusal stepRefusal startRows fresh moveAt stop after judge recordRefusal
+    advance reach records runRefusal runOf line lines reportOf outcomeOf ranOf digits processLines ranText textOf
 sample = refl
+
+-- that setup and a move of process 17: `refused 11 at record 1`
+pub refused-sample : textOf
+    (0x4F ∷ 0x53 ∷ 0x02 ∷ 0x02 ∷ 0x02 ∷ 0x00 ∷ 0x02 ∷ 0x00 ∷ 0x01 ∷ 0x02 ∷ 0x4F ∷ 0x54 ∷ 0x11 ∷ 0x00 ∷ 0x00 ∷ 0x00 ∷ 0x00 ∷ 0x00 ∷ [])
+    ≡ 0x72 ∷ 0x65 ∷ 0x66 ∷ 0x75 ∷ 0x73 ∷ 0x65 ∷ 0x64 ∷ 0x20 ∷ 0x31 ∷ 0x31 ∷ 0x20 ∷ 0x61 ∷ 0x74 ∷ 0x20
+    ∷ 0x72 ∷ 0x65 ∷ 0x63 ∷ 0x6F ∷ 0x72 ∷ 0x64 ∷ 0x20 ∷ 0x31 ∷ 0x0A ∷ []
+unfolding freshBank afterRead afterWrite badKind badSize badStart setupRefusal stepRefusal startRows fresh moveAt stop after judge recordRefusal
+    advance reach records runRefusal runOf line lines reportOf outcomeOf ranOf digits processLines ranText textOf
+refused-sample = refl
+
+-- `input over 65536`
+pub over-sample : (s : List ℕ) → 65_536 < length s
+    → textOf s ≡ 0x69 ∷ 0x6E ∷ 0x70 ∷ 0x75 ∷ 0x74 ∷ 0x20 ∷ 0x6F ∷ 0x76 ∷ 0x65 ∷ 0x72 ∷ 0x20 ∷ 0x36 ∷ 0x35 ∷ 0x35 ∷ 0x33 ∷ 0x36 ∷ 0x0A ∷ []
+over-sample s h = sym (text-over s h)

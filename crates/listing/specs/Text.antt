@@ -11,19 +11,32 @@ use Rattle.records.specs.Record.{byte}
 use Rattle.model.specs.Sizes.{lineWidth, reportWidth}
 use Rattle.model.specs.Report.{Ran, ranOf}
 
+-- `0`, the space and the newline
+abbrev pub zeroDigit : ℕ
+zeroDigit = 0x30
+
+abbrev pub space : ℕ
+space = 0x20
+
+abbrev pub newline : ℕ
+newline = 0x0A
+
 -- the digits of a number below 10 ^ k, the highest first and no zero before them; and of any 32-bit number
 unfoldable pub digits : ℕ → ℕ → List ℕ
 digits zero x = []
-digits (suc k) x = cond (ltb x 10) [] (digits k (x / 10)) ++ ((48 + x % 10) ∷ [])
+digits (suc k) x = cond (ltb x 10) [] (digits k (x / 10)) ++ ((zeroDigit + x % 10) ∷ [])
+
+abbrev pub mostDigits : ℕ
+mostDigits = 10
 
 abbrev pub decimal : ℕ → List ℕ
-decimal x = digits 10 x
+decimal x = digits mostDigits x
 
 -- numbers with a space between them, and a newline
 abbrev pub figures : List ℕ → List ℕ
-figures [] = 10 ∷ []
-figures (x ∷ []) = decimal x ++ (10 ∷ [])
-figures (x ∷ y ∷ ys) = decimal x ++ (32 ∷ figures (y ∷ ys))
+figures [] = newline ∷ []
+figures (x ∷ []) = decimal x ++ (newline ∷ [])
+figures (x ∷ y ∷ ys) = decimal x ++ (space ∷ figures (y ∷ ys))
 
 -- `kind `, ` processes `, ` records `, `refused `, ` at record `, and `input over 65536` with a newline
 abbrev pub kindWord : List ℕ

@@ -5,8 +5,11 @@ ghost use Prim.Native.Nat.{_+_, _*_, _≤_, _<_};
 ghost use lib.ListN.{length};
 ghost use Rattle.records.specs.Record.{byte};
 ghost use Rattle.listing.specs.Put.{Put};
-ghost use Rattle.listing.specs.Text.{decimal, headLine, refusedLine, processLine, processLines, ranText, Listed};
+ghost use Rattle.listing.specs.Sizes.{figureBytes, lineBytes, headBytes, refusedBytes, textBytes};
+ghost use Rattle.listing.specs.Text.{mostDigits, decimal, headLine, refusedLine, processLine, processLines, ranText, Listed};
+ghost use Rattle.model.specs.Report.{Ran};
 ghost use Rattle.model.specs.Sizes.{lineWidth, reportWidth};
+ghost use Rattle.terms.specs.Limits.{mostProcesses};
 use engine::runs;
 use model::LINE;
 use model::Outcome;
@@ -14,6 +17,9 @@ use model::REPORT;
 
 // The most bytes of an input.
 pub const MOST_INPUT: usize = 65536;
+
+// A buffer that any text fits.
+pub const TEXT: usize = 2048;
 
 // The byte at index i, 0 past the end.
 fn byte_at(s: &[u8], i: usize) -> u8
@@ -38,10 +44,10 @@ fn put_word(word: &[u8], at: usize, text: &mut [u8]) -> usize
 }
 
 fn put_number(x: u32, at: usize, text: &mut [u8]) -> usize
-    requires { ⌜ at + 10 ≤ length (now text) ⌝ }
-    ensures { λ r. ⌜ Put 10 at (decimal x) (now (text .entry)) r (now (text .exit)) ⌝ }
+    requires { ⌜ at + mostDigits ≤ length (now text) ⌝ }
+    ensures { λ r. ⌜ Put mostDigits at (decimal x) (now (text .entry)) r (now (text .exit)) ⌝ }
 {
-    let digit = 48 + (x % 10) as u8;
+    let digit = b'0' + (x % 10) as u8;
     if x < 10 {
         return put_byte(digit, at, text);
     }
@@ -51,8 +57,8 @@ fn put_number(x: u32, at: usize, text: &mut [u8]) -> usize
 
 // A number and what stands after it: a space, or the newline.
 fn put_figure(x: u32, after: u8, at: usize, text: &mut [u8]) -> usize
-    requires { ⌜ at + 11 ≤ length (now text) ⌝ }
-    ensures { λ r. ⌜ Put 11 at (decimal x ++ (after ∷ [])) (now (text .entry)) r (now (text .exit)) ⌝ }
+    requires { ⌜ at + figureBytes ≤ length (now text) ⌝ }
+    ensures { λ r. ⌜ Put figureBytes at (decimal x ++ (after ∷ [])) (now (text .entry)) r (now (text .exit)) ⌝ }
 {
     let next = put_number(x, at, text);
     put_byte(after, next, text)
@@ -60,8 +66,8 @@ fn put_figure(x: u32, after: u8, at: usize, text: &mut [u8]) -> usize
 
 // The line of the process at index j: number, place, second figure, moves, late writes.
 fn put_line(report: &[u32; REPORT], j: usize, at: usize, text: &mut [u8]) -> usize
-    requires { ⌜ (j < 32) × (at + 55 ≤ length (now text)) ⌝ }
-    ensures { λ r. ⌜ Put 55 at (processLine (now (report .entry)) j) (now (text .entry)) r (now (text .exit)) ⌝ }
+    requires { ⌜ (j < mostProcesses) × (at + lineBytes ≤ length (now text)) ⌝ }
+    ensures { λ r. ⌜ Put lineBytes at (processLine (now (report .entry)) j) (now (text .entry)) r (now (text .exit)) ⌝ }
 {
     let line = LINE * j;
     let next = put_figure(j as u32 + 1, b' ', at, text);
@@ -73,8 +79,8 @@ fn put_line(report: &[u32; REPORT], j: usize, at: usize, text: &mut [u8]) -> usi
 
 // The lines of the first n processes.
 fn put_lines(report: &[u32; REPORT], n: usize, at: usize, text: &mut [u8]) -> usize
-    requires { ⌜ (n ≤ 32) × (at + 55 * n ≤ length (now text)) ⌝ }
-    ensures { λ r. ⌜ Put (55 * n) at (processLines (now (report .entry)) n) (now (text .entry)) r (now (text .exit)) ⌝ }
+    requires { ⌜ (n ≤ mostProcesses) × (at + lineBytes * n ≤ length (now text)) ⌝ }
+    ensures { λ r. ⌜ Put (lineBytes * n) at (processLines (now (report .entry)) n) (now (text .entry)) r (now (text .exit)) ⌝ }
 {
     let mut next = at;
     let mut j: usize = 0;
@@ -87,8 +93,8 @@ fn put_lines(report: &[u32; REPORT], n: usize, at: usize, text: &mut [u8]) -> us
 
 // `kind K processes N records R`
 fn put_head(kind: u32, n: u32, accepted: u32, text: &mut [u8]) -> usize
-    requires { ⌜ 56 ≤ length (now text) ⌝ }
-    ensures { λ r. ⌜ Put 56 0 (headLine kind n accepted) (now (text .entry)) r (now (text .exit)) ⌝ }
+    requires { ⌜ headBytes ≤ length (now text) ⌝ }
+    ensures { λ r. ⌜ Put headBytes 0 (headLine kind n accepted) (now (text .entry)) r (now (text .exit)) ⌝ }
 {
     let next = put_word(b"kind ", 0, text);
     let next = put_number(kind, next, text);
@@ -100,8 +106,8 @@ fn put_head(kind: u32, n: u32, accepted: u32, text: &mut [u8]) -> usize
 
 // `refused NO at record INDEX`
 fn put_refused(number: u32, index: u32, text: &mut [u8]) -> usize
-    requires { ⌜ 40 ≤ length (now text) ⌝ }
-    ensures { λ r. ⌜ Put 40 0 (refusedLine number index) (now (text .entry)) r (now (text .exit)) ⌝ }
+    requires { ⌜ refusedBytes ≤ length (now text) ⌝ }
+    ensures { λ r. ⌜ Put refusedBytes 0 (refusedLine number index) (now (text .entry)) r (now (text .exit)) ⌝ }
 {
     let next = put_word(b"refused ", 0, text);
     let next = put_number(number, next, text);
@@ -111,8 +117,10 @@ fn put_refused(number: u32, index: u32, text: &mut [u8]) -> usize
 
 // What a run returned and left: its lines, or its refusal.
 fn put_ran(input: &[u8], ran: Outcome, report: &[u32; REPORT], text: &mut [u8]) -> usize
-    requires { ⌜ (ran .number ≡ 0 → lineWidth * byte 3 (now input) ≤ reportWidth) × (2048 ≤ length (now text)) ⌝ }
-    ensures { λ r. ⌜ Put 2048 0 (ranText (now (input .entry)) (record { outcome = ran; report = now (report .entry) })) (now (text .entry)) r (now (text .exit)) ⌝ }
+    requires { ⌜ (ran .number ≡ 0 → lineWidth * byte 3 (now input) ≤ reportWidth) × (textBytes ≤ length (now text)) ⌝ }
+    ensures { λ r.
+        let told : Ran = record { outcome = ran; report = now (report .entry) } in
+        ⌜ Put textBytes 0 (ranText (now (input .entry)) told) (now (text .entry)) r (now (text .exit)) ⌝ }
 {
     if ran.number != 0 {
         return put_refused(ran.number, ran.at, text);
@@ -124,7 +132,7 @@ fn put_ran(input: &[u8], ran: Outcome, report: &[u32; REPORT], text: &mut [u8]) 
 }
 
 // The text that the program prints for an input.
-pub fn list(input: &[u8], text: &mut [u8; 2048]) -> usize
+pub fn list(input: &[u8], text: &mut [u8; TEXT]) -> usize
     ensures { λ r. ⌜ Listed (now (input .entry)) (now (text .entry)) r (now (text .exit)) ⌝ }
 {
     if input.len() > MOST_INPUT {

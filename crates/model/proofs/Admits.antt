@@ -23,7 +23,7 @@ pub record Admitted (u : Shape) (s : State) (k : Step) : Type 0 where
   pub inside : indexOf (k .process) < u .count
   pub event : k .event ≤ 1
   pub top : k .tick ≤ topTick
-  pub later : s .last ≤ k .tick
+  pub later : s .newest ≤ k .tick
   pub alive : rowOf s (k .process) .crashed ≡ false
   pub unsettled : isMove k ≡ true → isDecided (rowOf s (k .process) .local .place) ≡ false
   pub awake : isMove k ≡ true → rowOf s (k .process) .local .wake ≤ k .tick

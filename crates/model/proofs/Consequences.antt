@@ -34,7 +34,7 @@ use Rattle.model.proofs.Keeping.{slot-small, fresh-rows, each-kept}
 use Rattle.model.proofs.View.{view}
 use Rattle.model.proofs.Invariants.{Inv, Along, nothing, Good, Bare, reach-good}
 use Rattle.model.proofs.Shown.{shows-inside, shows-decided, decided-shows}
-use Rattle.model.proofs.Tally.{Proposer, Proposed, proposed-along, proposed-start, Cap, Capped, capped-along, capped-start, plain-within, fast-within}
+use Rattle.model.proofs.Tally.{Proposer, HasProposer, proposed-along, proposed-start, Cap, Capped, capped-along, capped-start, plain-within, fast-within}
 
 -- THE KIND, from a place
 
@@ -95,14 +95,14 @@ module _ {u : Shape} {s : State} (point : Point u s) where
   xs = point .bytes
 
   -- a further property of the run holds here
-  along : (P : World → Type 0) → Along ordinary u P → ((w : World) → Bare (routine u) w → P w) → P (view (s .last) s)
+  along : (P : World → Type 0) → Along ordinary u P → ((w : World) → Bare (routine u) w → P w) → P (view (s .newest) s)
   along P al first = reach-good u so P al xs (point .starts) first (point .rest) (point .k) (point .led) .also
 
-  abbrev good : Good ordinary u so (λ w. Unit {0}) (nothing ordinary u) (s .last) s
+  abbrev good : Good ordinary u so (λ w. Unit {0}) (nothing ordinary u) (s .newest) s
   good = reach-good u so (λ w. Unit {0}) (nothing ordinary u) xs (point .starts) (λ w bare. tt) (point .rest) (point .k) (point .led)
 
   abbrev seen : World
-  seen = view (s .last) s
+  seen = view (s .newest) s
 
   reaches : (j : ℕ) → T (reachable (routine u) (rowAt s j .local .place))
   reaches j = by (decLt j (u .count))
@@ -156,7 +156,7 @@ module _ {u : Shape} {s : State} (point : Point u s) where
 
     proposer : Proposer (u .count) (rowAt s j .local .decided) (seen .seat)
     proposer =
-        let p = along (Proposed (u .count)) (proposed-along ordinary u (of-decision .0)) (proposed-start u) in
+        let p = along (HasProposer (u .count)) (proposed-along ordinary u (of-decision .0)) (proposed-start u) in
         rw (of-decision .1 .settled j a .stands) (p (of-decision .1 .filled j (settled-past (rowAt s j .local .place) a)))
 
     own-stays : (i : ℕ) → rowAt s i .own ≡ rowAt (fresh u xs) i .own
@@ -213,6 +213,6 @@ module _ {u : Shape} {s : State} (point : Point u s) where
       rw (decision-figure (routine u) (rowAt s j .local .place) (reaches j) q (rowAt s j)) (decision-proposed j q)
 
   -- once it has made the most moves, a row that has not crashed shows 8
-  pub shown-done : (most j : ℕ) → Within most (rowAt s j) → rowAt s j .moves ≡ most → shownPlace (rowAt s j) ≢ 9
+  pub shown-done : (bound j : ℕ) → Within bound (rowAt s j) → rowAt s j .moves ≡ bound → shownPlace (rowAt s j) ≢ 9
       → shownPlace (rowAt s j) ≡ 8
-  shown-done most j within e n = decided-shows (rowAt s j) (within .decided e) n
+  shown-done bound j within e n = decided-shows (rowAt s j) (within .decided e) n

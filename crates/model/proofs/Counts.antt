@@ -10,15 +10,14 @@ use borrow.Author.Tests.{eq-eqb, ne-eqb}
 use Rattle.terms.specs.declared.SlotNumber.{SlotNumber}
 use Rattle.terms.specs.Numbers.{processOf, indexOf}
 use Rattle.steps.specs.declared.Step.{Step}
-use Rattle.setups.specs.Setup.{setupFields}
 use Rattle.model.specs.declared.Place.{Place}
 use Rattle.model.specs.declared.Shape.{Shape}
 use Rattle.model.specs.declared.Row.{Row}
 use Rattle.model.specs.declared.State.{State}
 use Rattle.model.specs.Routine.{Routine, routine, crash, unmoved, begin}
 use Rattle.model.specs.Bounds.{Bytes, Sound, Starts}
-use Rattle.model.specs.Run.{rowAt, rowOf, fresh, isMove, after, stepAt, reach, Progress, Progress.going, shapeOf, restOf, startOf, records, runOf}
-use Rattle.model.specs.Counts.{howMany, moveOf, lateIn, movesOf, latesOf}
+use Rattle.model.specs.Run.{rowAt, rowOf, fresh, isMove, after, stepAt, reach, Progress, Progress.going, shape, restOf, startOf, records, runOf}
+use Rattle.model.specs.Counts.{howMany, moveOf, wroteLate, movesOf, latesOf}
 use Rattle.model.proofs.RunLaws.{run-going}
 use Rattle.model.proofs.Turns.{rowGone, turn}
 use Rattle.model.proofs.Keeping.{Kept, Admitted, fresh-rows, each-kept}
@@ -108,7 +107,7 @@ how-many-fewer further test (suc k) = omega (arith, how-many-fewer further test 
 moves-column : (u : Shape) → Column u (λ r. r .moves) (λ p k. true)
 moves-column u = record { begins = λ p c v. refl; stops = λ r. refl; goes = λ s k. refl }
 
-lates-column : (u : Shape) → Column u (λ r. r .lates) (lateIn u)
+lates-column : (u : Shape) → Column u (λ r. r .lates) (wroteLate u)
 lates-column u = record { begins = λ p c v. refl; stops = λ r. refl; goes = λ s k. refl }
 
 -- row j after k records of these bytes, from the state x
@@ -123,19 +122,19 @@ pub reach-counts : (u : Shape) → Sound u → (xs : List ℕ) → Starts u xs �
     → (j : ℕ) → Counted u (fresh u xs) rest k j (rowAt s j)
 reach-counts u so xs st rest k e j =
     let moves = tally u (λ r. r .moves) (λ p k. true) (moves-column u) so xs st rest k e j in
-    let lates = tally u (λ r. r .lates) (lateIn u) (lates-column u) so xs st rest k e j in
+    let lates = tally u (λ r. r .lates) (wroteLate u) (lates-column u) so xs st rest k e j in
     let mine : ℕ → Bool = λ i. moveOf (processOf (j + 1)) (stepAt rest i) in
     record {
       moves = moves;
       lates = lates;
-      fewer = omega (arith, moves, lates, how-many-fewer (λ i. lateIn u (reach u (fresh u xs) rest i) (stepAt rest i)) mine k);
+      fewer = omega (arith, moves, lates, how-many-fewer (λ i. wroteLate u (reach u (fresh u xs) rest i) (stepAt rest i)) mine k);
       within = omega (arith, moves, how-many-within mine k);
     }
 
 -- after an accepted run
-pub run-counts : (trace : List ℕ) (room : ℕ) {s : State} → Bytes trace → runOf trace room ≡ going s
-    → (j : ℕ) → Counted (shapeOf (setupFields trace)) (startOf trace) (restOf trace) (records (restOf trace)) j (rowAt s j)
-run-counts trace room bytes e =
+pub run-counts : (most : ℕ) (trace : List ℕ) (room : ℕ) {s : State} → Bytes trace → runOf most trace room ≡ going s
+    → (j : ℕ) → Counted (shape trace) (startOf most trace) (restOf trace) (records (restOf trace)) j (rowAt s j)
+run-counts most trace room bytes e =
     let both = run-going _ _ _ _ e in
-    let setup = run-said trace room (both .0) .setup in
-    reach-counts _ (setup-sound trace setup bytes) _ (setup-starts trace setup) (restOf trace) _ (both .1)
+    let setup = run-said most trace room (both .0) .setup in
+    reach-counts _ (setup-sound most trace setup bytes) _ (setup-starts most trace setup) (restOf trace) _ (both .1)

@@ -12,12 +12,12 @@ use lib.Seq.{getD-take, take-take, take-nil, drop-nil}
 use borrow.Author.Tests.{lt-ltb, le-ltb, ltb-true, ltb-false}
 use Rattle.terms.specs.Refusal.{_then_}
 use Rattle.records.specs.Record.{byte}
-use Rattle.setups.specs.Setup.{setupRefusal, setupFields, startBytes}
+use Rattle.setups.specs.Setup.{setupRefusal, startBytes}
 use Rattle.steps.specs.Step.{stepRefusal, stepFields}
 use Rattle.steps.specs.declared.Step.{Step}
 use Rattle.model.specs.declared.Shape.{Shape}
 use Rattle.model.specs.declared.State.{State}
-use Rattle.model.specs.Run.{Progress, Progress.going, Progress.stopped, rowOf, judge, recordRefusal, recordAt, advance, follow, stepTape, reach, restOf}
+use Rattle.model.specs.Run.{Progress, Progress.going, Progress.stopped, rowOf, judge, recordRefusal, recordAt, advance, follow, stepTape, reach, shape, restOf}
 
 -- the part past i of what is cut at i + n
 pub drop-take : (i n : ℕ) (s : List ℕ) → drop i (take (i + n) s) ≡ take n (drop i s)
@@ -47,7 +47,7 @@ module _ (m : ℕ) (s : List ℕ) (h : 8 ≤ m) where
 
   record-cut : (u : Shape) (x : State) → recordRefusal u x (take m s) ≡ recordRefusal u x s
   unfolding recordRefusal
-  record-cut u x = ap₂ (λ (n : ℕ) (k : Step). n then judge u (rowOf x (k .process)) (x .last) k) (step-cut (u .count)) fields-cut
+  record-cut u x = ap₂ (λ (n : ℕ) (k : Step). n then judge u (rowOf x (k .process)) (x .newest) k) (step-cut (u .count)) fields-cut
 
 -- the first k records of bytes that are cut after them or later
 pub reach-cut : (u : Shape) (x : State) (rest : List ℕ) (m k : ℕ) → k * 8 ≤ m → reach u x (take m rest) k ≡ reach u x rest k
@@ -74,14 +74,14 @@ module _ (trace : List ℕ) (m : ℕ) where
   at : (i : ℕ) → i < 8 → byte i front ≡ byte i trace
   at = byte-cut (8 + byte 3 trace + m) trace (omega arith)
 
-  starts-cut : startBytes front ≡ startBytes trace
+  pub starts-cut : startBytes front ≡ startBytes trace
   starts-cut =
       let n = byte 3 trace in
       let split : 8 + n + m ≡ 8 + (n + m) = omega arith in
       rw (at 3 (lit< tt), split, drop-take 8 (n + m) trace, take-take n (n + m) (drop 8 trace) (omega arith))
 
-  pub setup-fields-cut : setupFields front ≡ setupFields trace
-  setup-fields-cut = rw (starts-cut, at 2 (lit< tt), at 3 (lit< tt), at 4 (lit< tt), at 6 (lit< tt), at 7 (lit< tt))
+  pub shape-cut : shape front ≡ shape trace
+  shape-cut = rw (at 2 (lit< tt), at 3 (lit< tt), at 4 (lit< tt), at 6 (lit< tt), at 7 (lit< tt))
 
   pub setup-cut : (most : ℕ) → setupRefusal most front ≡ setupRefusal most trace
   unfolding setupRefusal

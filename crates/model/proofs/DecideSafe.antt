@@ -10,19 +10,19 @@ use lib.Dec.{T}
 use Rattle.model.specs.declared.Place.{Place}
 use Rattle.model.specs.Routine.{Routine, counted, crash, plainNext}
 use Rattle.model.proofs.Places.{imply, differ, inKind, putting, settled, checking, past}
-use Rattle.model.proofs.World.{Seat, Commons, World, At, Putting, Clock, wakeOf, Moves, put, put-all, put-same, moved, crashed, slotAt, wakeOn, ownOf}
+use Rattle.model.proofs.World.{Seat, Commons, World, Placed, Putting, Clock, wakeOf, Moves, put, put-all, put-same, moved, crashed, slotAt, wakeOn, ownOf}
 use Rattle.model.proofs.Pattern.{LateFrom, Bound, read-binds, stays-bound, wait-outlasts, Definitive, Touches, definitive-stands}
 
-abbrev pub Settled : Seat → Type 0
-Settled = At settled
+abbrev pub HasDecided : Seat → Type 0
+HasDecided = Placed settled
 
 abbrev pub Checking : Seat → Type 0
-Checking = At checking
+Checking = Placed checking
 
 abbrev pub Past : Seat → Type 0
-Past = At past
+Past = Placed past
 
-settled-checking : (s : Seat) → Settled s → Checking s
+settled-checking : (s : Seat) → HasDecided s → Checking s
 settled-checking s = imply settled checking tt (s .row .local .place)
 
 checking-past : (s : Seat) → Checking s → Past s
@@ -31,25 +31,25 @@ checking-past s = imply checking past tt (s .row .local .place)
 -- THE INVARIANT
 
 -- a process that decided: its value is the register's, and its wait, if it had one, is over
-pub record SettledAt (y floor : ℕ) (s : Seat) : Type 0 where
+pub record DecidedAt (y floor : ℕ) (s : Seat) : Type 0 where
   pub stands : s .row .local .decided ≡ y
   pub woken : wakeOn s ≤ floor
 
 pub record DecideInv (k : Clock) (w : World) : Type 0 where
   pub filled : (i : ℕ) → Past (w .seat i) → w .value 0 ≢ 0
-  pub settled : (i : ℕ) → Settled (w .seat i) → SettledAt (w .value 0) (w .floor) (w .seat i)
+  pub settled : (i : ℕ) → HasDecided (w .seat i) → DecidedAt (w .value 0) (w .floor) (w .seat i)
   -- who is about to write is late once the wait is over of one about to check
   pub waited : (i : ℕ) → Checking (w .seat i) → wakeOn (w .seat i) ≢ 0 → LateFrom w 0 (wakeOn (w .seat i))
   -- or, if that one had no wait, writes what stands there
   pub agreed : (i j : ℕ) → Checking (w .seat i) → wakeOn (w .seat i) ≡ 0 → Putting (w .seat j) → ownOf (w .seat j) ≡ w .value 0
   pub bound : Bound k w
 
-pub agreement : (k : Clock) (w : World) → DecideInv k w → (i j : ℕ) → Settled (w .seat i) → Settled (w .seat j)
+pub agreement : (k : Clock) (w : World) → DecideInv k w → (i j : ℕ) → HasDecided (w .seat i) → HasDecided (w .seat j)
     → w .seat i .row .local .decided ≡ w .seat j .row .local .decided
 agreement k w inv i j a b = inv .settled i a .stands ∙ sym (inv .settled j b .stands)
 
 -- the register of who decided after a wait has its definitive value (Theorem 1)
-pub settled-definitive : (k : Clock) (w : World) → DecideInv k w → (i : ℕ) → Settled (w .seat i) → wakeOn (w .seat i) ≢ 0 → Definitive w 0
+pub settled-definitive : (k : Clock) (w : World) → DecideInv k w → (i : ℕ) → HasDecided (w .seat i) → wakeOn (w .seat i) ≢ 0 → Definitive w 0
 settled-definitive k w inv i a n =
     let c = settled-checking (w .seat i) a in
     record {
@@ -65,7 +65,7 @@ settled-definitive k w inv i a n =
 pub record Sits (k : Clock) (w : World) (m : ℕ) (s : Seat) (y f : ℕ) : Type 0 where
   later : w .floor ≤ f
   filled : Past s → y ≢ 0
-  settled : Settled s → SettledAt y f s
+  settled : HasDecided s → DecidedAt y f s
   waited : Checking s → wakeOn s ≢ 0 → LateFrom w 0 (wakeOn s)
   agreed : Checking s → wakeOn s ≡ 0 → (j : ℕ) → Putting (w .seat j) → ownOf (w .seat j) ≡ y
   joins : Putting s → slotAt s ≡ 0 → (i : ℕ) → Checking (w .seat i) → wakeOn (w .seat i) ≢ 0 → s .deadline < wakeOn (w .seat i)
@@ -74,7 +74,7 @@ pub record Sits (k : Clock) (w : World) (m : ℕ) (s : Seat) (y f : ℕ) : Type 
   single : Checking s → Putting s → ⊥
   -- a filled register stays filled, and keeps its value once somebody has decided or checks without a wait
   stays : w .value 0 ≢ 0 → y ≢ 0
-  keeps : (i : ℕ) → Settled (w .seat i) → w .value 0 ≡ y
+  keeps : (i : ℕ) → HasDecided (w .seat i) → w .value 0 ≡ y
   accords : (i : ℕ) → Checking (w .seat i) → wakeOn (w .seat i) ≡ 0 → w .value 0 ≡ y
 
 pub seated : (k : Clock) (w : World) (m : ℕ) (s : Seat) (v : ℕ → ℕ) (g : Commons) (f : ℕ) → DecideInv k w → Sits k w m s (v 0) f
@@ -83,7 +83,7 @@ seated k w m s v g f inv sit =
     record {
       filled = put-all (λ i x. Past x → v 0 ≢ 0) (sit .filled) (λ i n a. sit .stays (inv .filled i a));
       settled =
-          put-all (λ i x. Settled x → SettledAt (v 0) f x) (sit .settled)
+          put-all (λ i x. HasDecided x → DecidedAt (v 0) f x) (sit .settled)
           (λ i n a.
           let o = inv .settled i a in
           let l = sit .later in
@@ -115,7 +115,7 @@ module _ (k : Clock) (w : World) (m t : ℕ) (inv : DecideInv k w) (later : w .f
   on-time = omega (arith, k .onward t)
 
   -- to a place neither at put nor at check nor decided, with the register as it was
-  pub goes : (s : Seat) → (Past s → w .value 0 ≢ 0) → (Checking s → ⊥) → (Settled s → ⊥) → (Putting s → ⊥) → Sits k w m s (w .value 0) (k .next t)
+  pub goes : (s : Seat) → (Past s → w .value 0 ≢ 0) → (Checking s → ⊥) → (HasDecided s → ⊥) → (Putting s → ⊥) → Sits k w m s (w .value 0) (k .next t)
   goes s a b c d =
       record {
         later = on-time;
@@ -133,7 +133,7 @@ module _ (k : Clock) (w : World) (m t : ℕ) (inv : DecideInv k w) (later : w .f
       }
 
   -- to put, having read the register empty
-  pub enters : (s : Seat) → w .value 0 ≡ 0 → s .deadline ≡ t + k .delta → (Past s → ⊥) → (Checking s → ⊥) → (Settled s → ⊥) → Sits k w m s (w .value 0) (k .next t)
+  pub enters : (s : Seat) → w .value 0 ≡ 0 → s .deadline ≡ t + k .delta → (Past s → ⊥) → (Checking s → ⊥) → (HasDecided s → ⊥) → Sits k w m s (w .value 0) (k .next t)
   enters s z d a b c =
       record {
         later = on-time;
@@ -151,7 +151,7 @@ module _ (k : Clock) (w : World) (m t : ℕ) (inv : DecideInv k w) (later : w .f
       }
 
   -- a write that is not late, to a place neither at put nor past a look
-  pub writes : (s : Seat) → Putting (w .seat m) → slotAt (w .seat m) ≡ 0 → t ≤ w .seat m .deadline → ownOf (w .seat m) ≢ 0 → (Past s → ⊥) → (Checking s → ⊥) → (Settled s → ⊥) → (Putting s → ⊥)
+  pub writes : (s : Seat) → Putting (w .seat m) → slotAt (w .seat m) ≡ 0 → t ≤ w .seat m .deadline → ownOf (w .seat m) ≢ 0 → (Past s → ⊥) → (Checking s → ⊥) → (HasDecided s → ⊥) → (Putting s → ⊥)
       → Sits k w m s (ownOf (w .seat m)) (k .next t)
   writes s p u h z a b c d =
       record {
@@ -169,14 +169,14 @@ module _ (k : Clock) (w : World) (m t : ℕ) (inv : DecideInv k w) (later : w .f
         accords = λ i x e. sym (inv .agreed i m x e p);
       }
     where
-      kept : (i : ℕ) → Settled (w .seat i) → Dec (wakeOn (w .seat i) ≡ 0) → w .value 0 ≡ ownOf (w .seat m)
+      kept : (i : ℕ) → HasDecided (w .seat i) → Dec (wakeOn (w .seat i) ≡ 0) → w .value 0 ≡ ownOf (w .seat m)
       kept i x (yes e) = sym (inv .agreed i m (settled-checking (w .seat i) x) e p)
       kept i x (no n) =
           sym (definitive-stands w 0 m t (settled-definitive k w inv i x n) later (Touches.write p h))
           ∙ put-at (w .value) (slotAt (w .seat m)) (ownOf (w .seat m)) u
 
   -- the wait
-  pub waits : (s : Seat) → Past (w .seat m) → wakeOn s ≡ wakeOf k t → (Settled s → ⊥) → (Putting s → ⊥) → Sits k w m s (w .value 0) (k .next t)
+  pub waits : (s : Seat) → Past (w .seat m) → wakeOn s ≡ wakeOf k t → (HasDecided s → ⊥) → (Putting s → ⊥) → Sits k w m s (w .value 0) (k .next t)
   waits s a u c d =
       record {
         later = on-time;
@@ -194,7 +194,7 @@ module _ (k : Clock) (w : World) (m t : ℕ) (inv : DecideInv k w) (later : w .f
       }
 
   -- to the check without a wait, where all that is still to be written is what stands in the register
-  pub skips : (s : Seat) → w .value 0 ≢ 0 → wakeOn s ≡ 0 → ((j : ℕ) → Putting (w .seat j) → ownOf (w .seat j) ≡ w .value 0) → (Settled s → ⊥) → (Putting s → ⊥)
+  pub skips : (s : Seat) → w .value 0 ≢ 0 → wakeOn s ≡ 0 → ((j : ℕ) → Putting (w .seat j) → ownOf (w .seat j) ≡ w .value 0) → (HasDecided s → ⊥) → (Putting s → ⊥)
       → Sits k w m s (w .value 0) (k .next t)
   skips s a u q c d =
       record {

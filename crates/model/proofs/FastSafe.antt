@@ -13,14 +13,14 @@ use Rattle.model.specs.declared.Place.{Place}
 use Rattle.model.specs.declared.Local.{Local}
 use Rattle.model.specs.Routine.{Routine, to, scans, counted, crash, scanAt, fastNext}
 use Rattle.model.proofs.Places.{imply, inKind, putting, raised, scanning, checking, past}
-use Rattle.model.proofs.World.{Seat, Commons, World, At, Putting, Clock, wakeOf, Moves, put, put-all, put-same, moved, crashed, slotAt, wakeOn, ownOf}
+use Rattle.model.proofs.World.{Seat, Commons, World, Placed, Putting, Clock, wakeOf, Moves, put, put-all, put-same, moved, crashed, slotAt, wakeOn, ownOf}
 use Rattle.model.proofs.DecideSafe.{Checking, Past, DecideInv, Sits, seated, put-at, decide-crashes, goes, enters, writes, waits, skips, settles}
 
 abbrev pub Raised : Seat → Type 0
-Raised = At raised
+Raised = Placed raised
 
 abbrev pub Scanning : Seat → Type 0
-Scanning = At scanning
+Scanning = Placed scanning
 
 putting-raised : (s : Seat) → Putting s → Raised s
 putting-raised s = imply putting raised tt (s .row .local .place)

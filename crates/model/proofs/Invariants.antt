@@ -30,7 +30,7 @@ use Rattle.model.proofs.LockSafe.{LockInv, lock-moves, lock-crashes}
 use Rattle.model.proofs.DecideSafe.{DecideInv, plain-moves, decide-crashes}
 use Rattle.model.proofs.FastSafe.{FastDecideInv, fast-moves, fast-crashes}
 use Rattle.model.proofs.RunLaws.{recordAt, each-record}
-use Rattle.model.proofs.Turns.{move-or-stop, last-after}
+use Rattle.model.proofs.Turns.{move-or-stop, newest-after}
 use Rattle.model.proofs.Keeping.{RowOk, slot-small, Kept, kept-move, kept-stop, kept-fresh, fresh-rows, Admitted, admitted}
 use Rattle.model.proofs.Rooms.{ask-fits}
 use Rattle.model.proofs.View.{view, Shaped, Mobile, sees, sees-stop}
@@ -227,25 +227,25 @@ bare-fresh u so xs st f =
 
 -- whatever its records are, as long as they are accepted: the state that they lead to keeps the invariant, and the further property
 module _ (u : Shape) (so : Sound u) (P : World → Type 0) (al : Along ordinary u P) where
-  good-record : (s : State) (k : Step) → Admitted u s k → Good ordinary u so P al (s .last) s → Good ordinary u so P al (k .tick) (after u s k)
+  good-record : (s : State) (k : Step) → Admitted u s k → Good ordinary u so P al (s .newest) s → Good ordinary u so P al (k .tick) (after u s k)
   good-record s k ad good =
       move-or-stop u s k (Good ordinary u so P al (k .tick))
       (λ e.
-      good-move ordinary u so P al (s .last) s good (k .process) (k .tick) (ad .inside) (ad .later) (ad .top)
+      good-move ordinary u so P al (s .newest) s good (k .process) (k .tick) (ad .inside) (ad .later) (ad .top)
       (record { undecided = ad .unsettled e; awake = ad .awake e }))
-      (λ e. good-stop ordinary u so P al (s .last) s good (k .process) (k .tick) (ad .inside) (ad .later))
+      (λ e. good-stop ordinary u so P al (s .newest) s good (k .process) (k .tick) (ad .inside) (ad .later))
 
   module _ (xs : List ℕ) (st : Starts u xs) (first : (w : World) → Bare (routine u) w → P w) where
-    good-fresh : Good ordinary u so P al (fresh u xs .last) (fresh u xs)
+    good-fresh : Good ordinary u so P al (fresh u xs .newest) (fresh u xs)
     good-fresh =
         let kt = kept-fresh u so xs st in
-        let bare = bare-fresh u so xs st (fresh u xs .last) in
+        let bare = bare-fresh u so xs st (fresh u xs .newest) in
         record { kept = kt; inv = inv-start ordinary (routine u) u _ bare (kt .each); also = first _ bare }
 
-    pub reach-good : (rest : List ℕ) (k : ℕ) {s : State} → reach u (fresh u xs) rest k ≡ going s → Good ordinary u so P al (s .last) s
+    pub reach-good : (rest : List ℕ) (k : ℕ) {s : State} → reach u (fresh u xs) rest k ≡ going s → Good ordinary u so P al (s .newest) s
     reach-good rest =
-        each-record (stepTape u rest) (fresh u xs) (λ k s. Good ordinary u so P al (s .last) s) good-fresh
+        each-record (stepTape u rest) (fresh u xs) (λ k s. Good ordinary u so P al (s .newest) s) good-fresh
         (λ k s e good.
         let bytes : List ℕ = recordAt rest k in
-        subst (λ (f : ℕ). Good ordinary u so P al f (after u s (stepFields bytes))) (sym (last-after u s (stepFields bytes)))
+        subst (λ (f : ℕ). Good ordinary u so P al f (after u s (stepFields bytes))) (sym (newest-after u s (stepFields bytes)))
         (good-record s (stepFields bytes) (admitted u s bytes e) good))

@@ -10,19 +10,19 @@ use Rattle.model.specs.declared.Place.{Place}
 use Rattle.terms.specs.Limits.{unlimited}
 use Rattle.model.specs.Routine.{Slots, counted, crash, lockNext}
 use Rattle.model.proofs.Places.{imply, differ, ofLock, putting, inside, claiming, holding}
-use Rattle.model.proofs.World.{Seat, Commons, World, At, Putting, Clock, wakeOf, Moves, put-all, moved, crashed, slotAt, wakeOn, ownOf}
+use Rattle.model.proofs.World.{Seat, Commons, World, Placed, Putting, Clock, wakeOf, Moves, put-all, moved, crashed, slotAt, wakeOn, ownOf}
 use Rattle.model.proofs.Pattern.{LateFrom, Bound, read-binds, stays-bound, wait-outlasts, Definitive, Touches, definitive-stands}
 
-abbrev pub Inside : Seat → Type 0
-Inside = At inside
+abbrev pub InSection : Seat → Type 0
+InSection = Placed inside
 
 abbrev pub Claiming : Seat → Type 0
-Claiming = At claiming
+Claiming = Placed claiming
 
 abbrev pub Holding : Seat → Type 0
-Holding = At holding
+Holding = Placed holding
 
-inside-claiming : (s : Seat) → Inside s → Claiming s
+inside-claiming : (s : Seat) → InSection s → Claiming s
 inside-claiming s = imply inside claiming tt (s .row .local .place)
 
 -- THE INVARIANT
@@ -37,12 +37,12 @@ pub record InsideAt (value : ℕ → ℕ) (floor i : ℕ) (s : Seat) : Type 0 wh
 pub record LockInv (k : Clock) (w : World) : Type 0 where
   -- a number in a register is that of a process past its write to it
   pub holds : (i c : ℕ) → w .value c ≡ suc i → Holding (w .seat i) × (slotAt (w .seat i) ≡ c)
-  pub inside : (i : ℕ) → Inside (w .seat i) → InsideAt (w .value) (w .floor) i (w .seat i)
+  pub inside : (i : ℕ) → InSection (w .seat i) → InsideAt (w .value) (w .floor) i (w .seat i)
   -- who is about to write to a slot is late once the wait is over of one whose number stands there
   pub waited : (i : ℕ) → Claiming (w .seat i) → w .value (slotAt (w .seat i)) ≡ suc i → LateFrom w (slotAt (w .seat i)) (wakeOn (w .seat i))
   pub bound : Bound k w
 
-pub exclusion : (k : Clock) (w : World) → LockInv k w → (i j : ℕ) → Inside (w .seat i) → Inside (w .seat j) → slotAt (w .seat i) ≡ slotAt (w .seat j) → i ≡ j
+pub exclusion : (k : Clock) (w : World) → LockInv k w → (i j : ℕ) → InSection (w .seat i) → InSection (w .seat j) → slotAt (w .seat i) ≡ slotAt (w .seat j) → i ≡ j
 exclusion k w inv i j a b e =
     let p = inv .inside i a .stands in
     let q = inv .inside j b .stands in
@@ -50,11 +50,11 @@ exclusion k w inv i j a b e =
     omega arith
 
 -- a write at leaving is never late
-pub exit-in-time : (k : Clock) (w : World) → LockInv k w → (i t : ℕ) → Inside (w .seat i) → t < unlimited → t ≤ w .seat i .deadline
+pub exit-in-time : (k : Clock) (w : World) → LockInv k w → (i t : ℕ) → InSection (w .seat i) → t < unlimited → t ≤ w .seat i .deadline
 exit-in-time k w inv i t a h = omega (arith, inv .inside i a .unbound)
 
 -- the slot of a process inside has its definitive value (Theorem 1)
-pub inside-definitive : (k : Clock) (w : World) → LockInv k w → (i : ℕ) → Inside (w .seat i) → Definitive w (slotAt (w .seat i))
+pub inside-definitive : (k : Clock) (w : World) → LockInv k w → (i : ℕ) → InSection (w .seat i) → Definitive w (slotAt (w .seat i))
 inside-definitive k w inv i a =
     let o = inv .inside i a in
     record {
@@ -70,14 +70,14 @@ inside-definitive k w inv i a =
 record Fits (k : Clock) (w : World) (m : ℕ) (s : Seat) (v : ℕ → ℕ) (f : ℕ) : Type 0 where
   later : w .floor ≤ f
   holds : (c : ℕ) → v c ≡ suc m → Holding s × (slotAt s ≡ c)
-  inside : Inside s → InsideAt v f m s
+  inside : InSection s → InsideAt v f m s
   waited : Claiming s → v (slotAt s) ≡ suc m → LateFrom w (slotAt s) (wakeOn s)
   joins : Putting s → (i : ℕ) → i ≢ m → Claiming (w .seat i) → v (slotAt (w .seat i)) ≡ suc i → slotAt s ≡ slotAt (w .seat i) → s .deadline < wakeOn (w .seat i)
   bound : Putting s → s .deadline < wakeOf k f
   single : Claiming s → Putting s → ⊥
   -- no other number is written, and none of a process inside is written over
   others : (i c : ℕ) → i ≢ m → v c ≡ suc i → w .value c ≡ suc i
-  keeps : (i : ℕ) → i ≢ m → Inside (w .seat i) → w .value (slotAt (w .seat i)) ≡ suc i → v (slotAt (w .seat i)) ≡ suc i
+  keeps : (i : ℕ) → i ≢ m → InSection (w .seat i) → w .value (slotAt (w .seat i)) ≡ suc i → v (slotAt (w .seat i)) ≡ suc i
 
 seated : (k : Clock) (w : World) (m : ℕ) (s : Seat) (v : ℕ → ℕ) (g : Commons) (f : ℕ) → LockInv k w → Fits k w m s v f
     → LockInv k (moved w m s v g f)
@@ -85,7 +85,7 @@ seated k w m s v g f inv fit =
     record {
       holds = put-all (λ i x. (c : ℕ) → v c ≡ suc i → Holding x × (slotAt x ≡ c)) (fit .holds) (λ i n c e. inv .holds i c (fit .others i c n e));
       inside =
-          put-all (λ i x. Inside x → InsideAt v f i x) (fit .inside)
+          put-all (λ i x. InSection x → InsideAt v f i x) (fit .inside)
           (λ i n a.
           let o = inv .inside i a in
           let l = fit .later in
@@ -103,7 +103,7 @@ seated k w m s v g f inv fit =
     }
 
 -- who has its number nowhere, and is neither about to write nor inside
-away : (k : Clock) (w : World) (m : ℕ) (s : Seat) (f : ℕ) → w .floor ≤ f → ((c : ℕ) → w .value c ≡ suc m → ⊥) → (Inside s → ⊥) → (Putting s → ⊥) → Fits k w m s (w .value) f
+away : (k : Clock) (w : World) (m : ℕ) (s : Seat) (f : ℕ) → w .floor ≤ f → ((c : ℕ) → w .value c ≡ suc m → ⊥) → (InSection s → ⊥) → (Putting s → ⊥) → Fits k w m s (w .value) f
 away k w m s f l none a b =
     record {
       later = l;

@@ -8,20 +8,18 @@ use native.Mathlib.Omega.{arith}
 use native.Mathlib.Nat.{add-zero, add-suc}
 use lib.ListN.{length, take, drop, length-take}
 use lib.Seq.{drop-drop}
-use Rattle.terms.specs.Limits.{mostProcesses}
 use Rattle.terms.specs.Overlay.{overlay}
 use Rattle.terms.specs.Refusal.{ifAccepted}
-use Rattle.setups.specs.declared.Setup.{Setup}
 use Rattle.records.specs.Record.{byte}
-use Rattle.setups.specs.Setup.{setupFields}
+use Rattle.setups.specs.Setup.{places}
 use Rattle.model.specs.declared.Shape.{Shape}
 use Rattle.model.specs.declared.State.{State}
 use Rattle.model.specs.Routine.{routine}
-use Rattle.model.specs.Run.{fresh, recordRefusal, Progress, Progress.going, Progress.stopped, recordAt, advance, follow, stepTape, reach, records, shapeOf, restOf, reached, runRefusal, runOf}
+use Rattle.model.specs.Run.{fresh, recordRefusal, Progress, Progress.going, Progress.stopped, recordAt, advance, follow, stepTape, reach, records, shape, restOf, startOf, reached, runRefusal, runOf}
 use Rattle.model.specs.Report.{lines, reportOf, outcomeOf, ranOf}
 use Rattle.model.proofs.RunLaws.{follow-going-before, reach-long, records-end, run-follows, run-ends, run-going}
 use Rattle.model.proofs.SetupSays.{run-said, said-run}
-use Rattle.model.proofs.Cuts.{reach-cut, setup-fields-cut, setup-cut, rest-cut}
+use Rattle.model.proofs.Cuts.{reach-cut, starts-cut, shape-cut, setup-cut, rest-cut}
 
 -- CUT TRACES
 
@@ -30,53 +28,53 @@ abbrev pub cutAt : List ℕ → ℕ → List ℕ
 cutAt trace k = take (8 + byte 3 trace + k * 8) trace
 
 -- the whole run has the state s after k records, and the trace cut there is accepted, with 0 and k, and has the state s at its end
-pub record CutThere (trace old : List ℕ) (k : ℕ) (s : State) : Type 0 where
-  pub whole : reached trace k ≡ going s
-  pub cut : runOf (cutAt trace k) (length old) ≡ going s
-  pub outcome : ranOf (cutAt trace k) old .outcome ≡ record { number = 0; at = k }
-  pub report : ranOf (cutAt trace k) old .report ≡ overlay (lines (routine (shapeOf (setupFields trace))) (s .rows) (byte 3 trace)) old
+pub record CutThere (most : ℕ) (trace old : List ℕ) (k : ℕ) (s : State) : Type 0 where
+  pub whole : reached most trace k ≡ going s
+  pub cut : runOf most (cutAt trace k) (length old) ≡ going s
+  pub outcome : ranOf most (cutAt trace k) old .outcome ≡ record { number = 0; at = k }
+  pub report : ranOf most (cutAt trace k) old .report ≡ overlay (lines (routine (shape trace)) (s .rows) (byte 3 trace)) old
 
 -- A trace cut after any accepted record is a trace, whatever comes behind: also where a later record is refused.
-module _ (trace old : List ℕ) (fits : runRefusal trace (length old) ≡ 0) (k : ℕ) {s : State} (e : reached trace k ≡ going s) where
+module _ (most : ℕ) (trace old : List ℕ) (fits : runRefusal most trace (length old) ≡ 0) (k : ℕ) {s : State} (e : reached most trace k ≡ going s) where
   rest-length : length (restOf (cutAt trace k)) ≡ k * 8
   rest-length =
       let long = reach-long _ _ (restOf trace) k e in
       rw (rest-cut trace (k * 8), length-take) (omega arith)
 
-  cut-fits : runRefusal (cutAt trace k) (length old) ≡ 0
+  cut-fits : runRefusal most (cutAt trace k) (length old) ≡ 0
   cut-fits =
-      let said = run-said trace (length old) fits in
-      said-run (cutAt trace k) (length old)
+      let said = run-said most trace (length old) fits in
+      said-run most (cutAt trace k) (length old)
       (record {
-        setup = setup-cut trace (k * 8) mostProcesses ∙ said .setup;
-        lines = omega (arith, said .lines, ap (λ (f : Setup). f .processes) (setup-fields-cut trace (k * 8)));
+        setup = setup-cut trace (k * 8) most ∙ said .setup;
+        lines = omega (arith, said .lines, ap (λ (u : Shape). u .count) (shape-cut trace (k * 8)));
         short = omega (arith, said .short, rest-length, reach-long _ _ (restOf trace) k e);
       })
 
-  cut-reached : reached (cutAt trace k) k ≡ going s
+  cut-reached : reached most (cutAt trace k) k ≡ going s
   cut-reached =
-      ap₂ (λ (f : Setup) (rest : List ℕ). reach (shapeOf f) (fresh (shapeOf f) (f .starts)) rest k) (setup-fields-cut trace (k * 8)) (rest-cut trace (k * 8))
+      ap₂ (λ (u : Shape) (starts : List ℕ). reach u (fresh u (places most starts)) (restOf (cutAt trace k)) k) (shape-cut trace (k * 8)) (starts-cut trace (k * 8))
+      ∙ ap (λ (rest : List ℕ). reach (shape trace) (startOf most trace) rest k) (rest-cut trace (k * 8))
       ∙ reach-cut _ _ (restOf trace) (k * 8) k (omega arith)
       ∙ e
 
-  pub cut-there : CutThere trace old k s
+  pub cut-there : CutThere most trace old k s
   unfolding ranOf outcomeOf reportOf
   cut-there =
-      let there = run-ends (cutAt trace k) (length old) cut-fits k cut-reached rest-length in
-      let shape = ap shapeOf (setup-fields-cut trace (k * 8)) in
+      let there = run-ends most (cutAt trace k) (length old) cut-fits k cut-reached rest-length in
       record {
         whole = e;
         cut = there;
         outcome = ap₂ outcomeOf (records-end _ k rest-length) there;
-        report = ap₂ (λ (u : Shape) (p : Progress). reportOf u old p) shape there;
+        report = ap₂ (λ (u : Shape) (p : Progress). reportOf u old p) (shape-cut trace (k * 8)) there;
       }
 
 -- every point of an accepted run
-pub cut-anywhere : (trace old : List ℕ) {s : State} → runOf trace (length old) ≡ going s → (k : ℕ) → k ≤ records (restOf trace) → (t : State) × CutThere trace old k t
-cut-anywhere trace old e k l =
+pub cut-anywhere : (most : ℕ) (trace old : List ℕ) {s : State} → runOf most trace (length old) ≡ going s → (k : ℕ) → k ≤ records (restOf trace) → (t : State) × CutThere most trace old k t
+cut-anywhere most trace old e k l =
     let both = run-going _ _ _ _ e in
     let there = follow-going-before _ _ k (records (restOf trace)) (both .1) l in
-    (there .0, cut-there trace old (both .0) k (there .1))
+    (there .0, cut-there most trace old (both .0) k (there .1))
 
 -- TWO PARTS, one after the other
 
@@ -108,9 +106,9 @@ reach-parts u x rest a (suc b) {s} e =
 -- NOTHING BUT THE BYTES AND THE REPORT'S LENGTH
 
 -- whatever the report held, the outcome is the same
-pub outcome-by-length : (trace old other : List ℕ) → length old ≡ length other → ranOf trace old .outcome ≡ ranOf trace other .outcome
+pub outcome-by-length : (most : ℕ) (trace old other : List ℕ) → length old ≡ length other → ranOf most trace old .outcome ≡ ranOf most trace other .outcome
 unfolding ranOf
-outcome-by-length trace old other h = ap (λ (room : ℕ). outcomeOf (records (restOf trace)) (runOf trace room)) h
+outcome-by-length most trace old other h = ap (λ (room : ℕ). outcomeOf (records (restOf trace)) (runOf most trace room)) h
 
 -- and what is written over its front is
 abbrev writtenOf : Shape → Progress → List ℕ
@@ -122,12 +120,11 @@ unfolding reportOf
 written-over u old (going s) = refl
 written-over u old (stopped y j) = refl
 
-pub written-by-length : (trace : List ℕ) (room : ℕ) → (w : List ℕ) × ((old : List ℕ) → length old ≡ room → ranOf trace old .report ≡ overlay w old)
+pub written-by-length : (most : ℕ) (trace : List ℕ) (room : ℕ) → (w : List ℕ) × ((old : List ℕ) → length old ≡ room → ranOf most trace old .report ≡ overlay w old)
 unfolding ranOf
-written-by-length trace room =
-    let u = shapeOf (setupFields trace) in
-    (writtenOf u (runOf trace room), λ old h. rw h (written-over u old (runOf trace room)))
+written-by-length most trace room =
+    (writtenOf (shape trace) (runOf most trace room), λ old h. rw h (written-over (shape trace) old (runOf most trace room)))
 
 -- two reports that are both long enough see the same run
-pub run-by-bytes : (trace : List ℕ) (room other : ℕ) → runRefusal trace room ≡ 0 → runRefusal trace other ≡ 0 → runOf trace room ≡ runOf trace other
-run-by-bytes trace room other h g = run-follows _ _ _ _ h ∙ sym (run-follows _ _ _ _ g)
+pub run-by-bytes : (most : ℕ) (trace : List ℕ) (room other : ℕ) → runRefusal most trace room ≡ 0 → runRefusal most trace other ≡ 0 → runOf most trace room ≡ runOf most trace other
+run-by-bytes most trace room other h g = run-follows _ _ _ _ h ∙ sym (run-follows _ _ _ _ g)

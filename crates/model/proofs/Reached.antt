@@ -6,15 +6,14 @@ use mathlib.Core.List.{List}
 use native.Mathlib.Omega.{arith}
 use lib.Dec.{T}
 use lib.ListN.{length, getD}
-use Rattle.terms.specs.Limits.{mostProcesses}
 use Rattle.records.specs.Record.{byte}
-use Rattle.setups.specs.Setup.{setupFields}
+use Rattle.setups.specs.Setup.{places, startBytes}
 use Rattle.setups.proofs.SetupLaws.{setup-said, place-at}
 use Rattle.model.specs.declared.State.{State}
 use Rattle.model.specs.Bounds.{Bytes}
-use Rattle.model.specs.Run.{rowAt, restOf, records, reached, runOf, Progress.going, Progress.stopped}
+use Rattle.model.specs.Run.{rowAt, shape, restOf, records, reached, runOf, Progress.going, Progress.stopped}
 use Rattle.model.specs.Report.{ranOf}
-use Rattle.model.specs.Claims.{At, shape, Decides, Proposed, Within, shown, ShownProposed, ShownWithin}
+use Rattle.model.specs.Claims.{At, Decides, Proposed, Within, shown, ShownProposed, ShownWithin}
 use Rattle.model.proofs.Places.{settled}
 use Rattle.model.proofs.RunLaws.{follow-same, run-going}
 use Rattle.model.proofs.SetupSays.{setup-sound, setup-starts, run-said}
@@ -22,90 +21,90 @@ use Rattle.model.proofs.Consequences.{Point, decision-proposed, plain-b
 use Rattle.model.proofs.Later.{decided-stays}
 use Rattle.model.proofs.Shown.{run-stopped-after, accepted-goes, shows}
 
-pub run-led : (trace : List ℕ) (room : ℕ) {s : State} → Bytes trace → runOf trace room ≡ going s → At trace (records (restOf trace)) s
-run-led trace room bytes e =
+pub run-led : (most : ℕ) (trace : List ℕ) (room : ℕ) {s : State} → Bytes trace → runOf most trace room ≡ going s → At most trace (records (restOf trace)) s
+run-led most trace room bytes e =
     let both = run-going _ _ _ _ e in
-    record { bytes = bytes; setup = run-said trace room (both .0) .setup; led = both .1 }
+    record { bytes = bytes; setup = run-said most trace room (both .0) .setup; led = both .1 }
 
 -- a run that is refused at record k + 1 had reached such a state after k
-pub refused-led : (trace : List ℕ) (room : ℕ) {x k : ℕ} → Bytes trace → runOf trace room ≡ stopped x (suc k) → (s : State) × At trace k s
-refused-led trace room {x} {k} bytes e =
+pub refused-led : (most : ℕ) (trace : List ℕ) (room : ℕ) {x k : ℕ} → Bytes trace → runOf most trace room ≡ stopped x (suc k) → (s : State) × At most trace k s
+refused-led most trace room {x} {k} bytes e =
     let both = run-stopped-after _ _ _ _ e in
     let p = both .1 in
     let same : p .k ≡ k = omega (arith, p .index) in
-    let led = subst (λ (n : ℕ). reached trace n ≡ going (p .state)) same (p .led) in
-    (p .state, record { bytes = bytes; setup = run-said trace room (both .0) .setup; led = led })
+    let led = subst (λ (n : ℕ). reached most trace n ≡ going (p .state)) same (p .led) in
+    (p .state, record { bytes = bytes; setup = run-said most trace room (both .0) .setup; led = led })
 
-abbrev pub point : {trace : List ℕ} {k : ℕ} {s : State} → At trace k s → Point (shape trace) s
-point {trace} {k} at =
+abbrev pub point : {most : ℕ} {trace : List ℕ} {k : ℕ} {s : State} → At most trace k s → Point (shape trace) s
+point {most} {trace} {k} at =
     record {
-      sound = setup-sound trace (at .setup) (at .bytes);
-      bytes = setupFields trace .starts;
-      starts = setup-starts trace (at .setup);
+      sound = setup-sound most trace (at .setup) (at .bytes);
+      bytes = places most (startBytes trace);
+      starts = setup-starts most trace (at .setup);
       rest = restOf trace;
       k = k;
       led = at .led;
     }
 
 -- the start byte of row j
-start-byte : {trace : List ℕ} {k : ℕ} {s : State} → At trace k s → (j : ℕ) → j < byte 3 trace → getD (setupFields trace .starts) j 0 ≡ byte (8 + j) trace
-start-byte {trace} at j h = place-at trace (setup-said mostProcesses trace (at .setup) .head .whole) mostProcesses j h
+start-byte : {most : ℕ} {trace : List ℕ} {k : ℕ} {s : State} → At most trace k s → (j : ℕ) → j < byte 3 trace → getD (places most (startBytes trace)) j 0 ≡ byte (8 + j) trace
+start-byte {most} {trace} at j h = place-at trace (setup-said most trace (at .setup) .head .whole) most j h
 
-pub proposed-there : {trace : List ℕ} {k : ℕ} {s : State} → At trace k s → (j : ℕ) → T (settled (rowAt s j .local .place)) → Proposed trace s (rowAt s j .local .decided)
+pub proposed-there : {most : ℕ} {trace : List ℕ} {k : ℕ} {s : State} → At most trace k s → (j : ℕ) → T (settled (rowAt s j .local .place)) → Proposed trace s (rowAt s j .local .decided)
 proposed-there at j a =
     let p = decision-proposed (point at) j a in
     record { who = p .0; among = p .1; proposed = sym (start-byte at (p .0) (p .1)) ∙ p .2; moved = p .3 }
 
-pub stays-decided : {trace : List ℕ} {j k : ℕ} {s t : State} → At trace j s → At trace k t → j ≤ k → (i v : ℕ) → Decides s i v → Decides t i v
-stays-decided {trace} {j} {k} at at′ h i v a =
+pub stays-decided : {most : ℕ} {trace : List ℕ} {j k : ℕ} {s t : State} → At most trace j s → At most trace k t → j ≤ k → (i v : ℕ) → Decides s i v → Decides t i v
+stays-decided {most} {trace} {j} {k} at at′ h i v a =
     let p = point at in
     decided-stays (shape trace) (p .sound) _ (p .starts) (restOf trace) i v j
     (λ s e. subst (λ (x : State). Decides x i v) (follow-same _ _ j (at .led) e) a) k h (at′ .led)
 
 -- THE REPORT of an accepted run
-module _ (trace old : List ℕ) (bytes : Bytes trace) (accepted : ranOf trace old .outcome .number ≡ 0) where
-  abbrev end : (s : State) × (runOf trace (length old) ≡ going s)
-  end = accepted-goes trace old accepted
+module _ (most : ℕ) (trace old : List ℕ) (bytes : Bytes trace) (accepted : ranOf most trace old .outcome .number ≡ 0) where
+  abbrev end : (s : State) × (runOf most trace (length old) ≡ going s)
+  end = accepted-goes most trace old accepted
 
-  abbrev at-end : At trace (records (restOf trace)) (end .0)
-  at-end = run-led trace (length old) bytes (end .1)
+  abbrev at-end : At most trace (records (restOf trace)) (end .0)
+  at-end = run-led most trace (length old) bytes (end .1)
 
   module _ (i j : ℕ) (h : i < byte 3 trace) (g : j < byte 3 trace) where
-    pub rows-exclude : shown trace old i 0 ≡ 5 → shown trace old j 0 ≡ 5 → shown trace old i 1 ≡ shown trace old j 1 → i ≡ j
+    pub rows-exclude : shown most trace old i 0 ≡ 5 → shown most trace old j 0 ≡ 5 → shown most trace old i 1 ≡ shown most trace old j 1 → i ≡ j
     rows-exclude a b e =
-        let x = shows trace old (end .1) i h in
-        let y = shows trace old (end .1) j g in
+        let x = shows most trace old (end .1) i h in
+        let y = shows most trace old (end .1) j g in
         shown-exclusion (point at-end) i j (sym (x .place) ∙ a) (sym (y .place) ∙ b) (sym (x .figure) ∙ e ∙ y .figure)
 
-    pub rows-agree : shown trace old i 0 ≡ 8 → shown trace old j 0 ≡ 8 → shown trace old i 1 ≡ shown trace old j 1
+    pub rows-agree : shown most trace old i 0 ≡ 8 → shown most trace old j 0 ≡ 8 → shown most trace old i 1 ≡ shown most trace old j 1
     rows-agree a b =
-        let x = shows trace old (end .1) i h in
-        let y = shows trace old (end .1) j g in
+        let x = shows most trace old (end .1) i h in
+        let y = shows most trace old (end .1) j g in
         x .figure ∙ shown-agreement (point at-end) i j (sym (x .place) ∙ a) (sym (y .place) ∙ b) ∙ sym (y .figure)
 
   module _ (j : ℕ) (h : j < byte 3 trace) where
-    pub row-proposed : shown trace old j 0 ≡ 8 → ShownProposed trace old j
+    pub row-proposed : shown most trace old j 0 ≡ 8 → ShownProposed most trace old j
     row-proposed a =
-        let x = shows trace old (end .1) j h in
+        let x = shows most trace old (end .1) j h in
         let p = shown-proposed (point at-end) j (sym (x .place) ∙ a) in
         record {
           who = p .0;
           among = p .1;
           proposed = sym (start-byte at-end (p .0) (p .1)) ∙ p .2 ∙ sym (x .figure);
-          moved = rw (shows trace old (end .1) (p .0) (p .1) .moves) (p .3);
+          moved = rw (shows most trace old (end .1) (p .0) (p .1) .moves) (p .3);
         }
 
-    row-within : (most : ℕ) → Within most (rowAt (end .0) j) → ShownWithin most trace old j
-    row-within most w =
-        let x = shows trace old (end .1) j h in
+    row-within : (bound : ℕ) → Within bound (rowAt (end .0) j) → ShownWithin bound most trace old j
+    row-within bound w =
+        let x = shows most trace old (end .1) j h in
         record {
           bounded = rw (x .moves) (w .bounded);
-          decided = λ e n. x .place ∙ shown-done (point at-end) most j w (sym (x .moves) ∙ e) (λ z. n (x .place ∙ z));
+          decided = λ e n. x .place ∙ shown-done (point at-end) bound j w (sym (x .moves) ∙ e) (λ z. n (x .place ∙ z));
         }
 
-    pub row-plain : byte 2 trace ≡ 2 → ShownWithin (5 + 2 * shown trace old j 3) trace old j
-    row-plain two = row-within (5 + 2 * shown trace old j 3) (rw (shows trace old (end .1) j h .lates) (plain-bound (point at-end) (rw two) j))
+    pub row-plain : byte 2 trace ≡ 2 → ShownWithin (5 + 2 * shown most trace old j 3) most trace old j
+    row-plain two = row-within (5 + 2 * shown most trace old j 3) (rw (shows most trace old (end .1) j h .lates) (plain-bound (point at-end) (rw two) j))
 
-    pub row-fast : byte 2 trace ≡ 3 → ShownWithin (byte 4 trace + 5 + 2 * shown trace old j 3) trace old j
+    pub row-fast : byte 2 trace ≡ 3 → ShownWithin (byte 4 trace + 5 + 2 * shown most trace old j 3) most trace old j
     row-fast three =
-        row-within (byte 4 trace + 5 + 2 * shown trace old j 3) (rw (shows trace old (end .1) j h .lates) (fast-bound (point at-end) (rw three) j))
+        row-within (byte 4 trace + 5 + 2 * shown most trace old j 3) (rw (shows most trace old (end .1) j h .lates) (fast-bound (point at-end) (rw three) j))

@@ -10,17 +10,17 @@ use borrow.Author.Tests.{lt-ltb, le-ltb}
 use lib.Dec.{ltb}
 use lib.ListN.{length, take, drop, getD, set, length-append}
 use lib.Seq.{sets-eq, take-at, drop-at, drop-drop}
-use Rattle.terms.specs.Limits.{mostProcesses, mostSteps}
+use Rattle.terms.specs.Limits.{mostSteps}
 use Rattle.terms.specs.Overlay.{overlay}
 use Rattle.terms.specs.Refusal.{refuse, _then_}
 use Rattle.terms.proofs.RefusalLaws.{then-on, then-stop}
 use Rattle.records.specs.Record.{byte}
-use Rattle.setups.specs.Setup.{setupRefusal, setupFields}
+use Rattle.setups.specs.Setup.{setupRefusal}
 use Rattle.model.specs.declared.Shape.{Shape}
 use Rattle.model.specs.declared.Row.{Row}
 use Rattle.model.specs.Routine.{Routine}
 use Rattle.model.specs.Sizes.{lineWidth}
-use Rattle.model.specs.Run.{blank, shapeOf, restOf, runRefusal, runOf, records, reached, Progress, Progress.going, Progress.stopped}
+use Rattle.model.specs.Run.{blank, shape, restOf, runRefusal, runOf, records, reached, Progress, Progress.going, Progress.stopped}
 use Rattle.model.specs.Report.{shownPlace, figureOf, line, lines, reportOf, outcomeOf, Ran, ranOf}
 use Rattle.model.proofs.RunLaws.{run-refused, run-follows}
 
@@ -70,36 +70,36 @@ pub ran-stopped : (u : Shape) (rest old : List ℕ) {p : Progress} {x k : ℕ} �
 unfolding outcomeOf reportOf
 ran-stopped u rest old e = sym (ap (ranBy u rest old) e)
 
-module _ (trace old : List ℕ) where
-  refused-first : (runRefusal trace (length old) ≡ 0 → ⊥) → refusedRun (runRefusal trace (length old)) 0 old ≡ ranOf trace old
+module _ (most : ℕ) (trace old : List ℕ) where
+  refused-first : (runRefusal most trace (length old) ≡ 0 → ⊥) → refusedRun (runRefusal most trace (length old)) 0 old ≡ ranOf most trace old
   unfolding ranOf
-  refused-first h = ran-stopped (shapeOf (setupFields trace)) (restOf trace) old (run-refused _ _ _ _ h)
+  refused-first h = ran-stopped (shape trace) (restOf trace) old (run-refused _ _ _ _ h)
 
-  refused-as : (x : ℕ) → runRefusal trace (length old) ≡ suc x → refusedRun (suc x) 0 old ≡ ranOf trace old
+  refused-as : (x : ℕ) → runRefusal most trace (length old) ≡ suc x → refusedRun (suc x) 0 old ≡ ranOf most trace old
   refused-as x e = ap (λ (y : ℕ). refusedRun y 0 old) (sym e) ∙ refused-first (λ z. absurd (omega arith))
 
   -- 1 to 6; 7; 8
-  pub ran-unset : (x : ℕ) → x ≡ setupRefusal mostProcesses trace → (x ≡ 0 → ⊥) → refusedRun x 0 old ≡ ranOf trace old
+  pub ran-unset : (x : ℕ) → x ≡ setupRefusal most trace → (x ≡ 0 → ⊥) → refusedRun x 0 old ≡ ranOf most trace old
   unfolding runRefusal
   ran-unset x e h =
-      let no : setupRefusal mostProcesses trace ≡ 0 → ⊥ = λ z. h (e ∙ z) in
-      let one = then-stop (setupRefusal mostProcesses trace) no (refuse 7 (ltb (length old) (lineWidth * byte 3 trace))) in
-      let all : runRefusal trace (length old) ≡ setupRefusal mostProcesses trace = then-stop _ (λ z. no (sym one ∙ z)) _ ∙ one in
+      let no : setupRefusal most trace ≡ 0 → ⊥ = λ z. h (e ∙ z) in
+      let one = then-stop (setupRefusal most trace) no (refuse 7 (ltb (length old) (lineWidth * byte 3 trace))) in
+      let all : runRefusal most trace (length old) ≡ setupRefusal most trace = then-stop _ (λ z. no (sym one ∙ z)) _ ∙ one in
       ap (λ (y : ℕ). refusedRun y 0 old) (e ∙ sym all) ∙ refused-first (λ z. no (sym all ∙ z))
 
-  module _ (set : setupRefusal mostProcesses trace ≡ 0) where
-    pub ran-narrow : length old < lineWidth * byte 3 trace → refusedRun 7 0 old ≡ ranOf trace old
+  module _ (set : setupRefusal most trace ≡ 0) where
+    pub ran-narrow : length old < lineWidth * byte 3 trace → refusedRun 7 0 old ≡ ranOf most trace old
     unfolding runRefusal
     ran-narrow h = refused-as 6 (rw (set, lt-ltb (length old) (lineWidth * byte 3 trace) h))
 
     module _ (wide : lineWidth * byte 3 trace ≤ length old) where
-      pub ran-long : 8 * mostSteps < length (restOf trace) → refusedRun 8 0 old ≡ ranOf trace old
+      pub ran-long : 8 * mostSteps < length (restOf trace) → refusedRun 8 0 old ≡ ranOf most trace old
       unfolding runRefusal
       ran-long h = refused-as 7 (rw (set, le-ltb (length old) (lineWidth * byte 3 trace) wide, lt-ltb (8 * mostSteps) (length (restOf trace)) h))
 
       -- and then the records
-      pub ran-on : length (restOf trace) ≤ 8 * mostSteps → ranBy (shapeOf (setupFields trace)) (restOf trace) old (reached trace (records (restOf trace))) ≡ ranOf trace old
+      pub ran-on : length (restOf trace) ≤ 8 * mostSteps → ranBy (shape trace) (restOf trace) old (reached most trace (records (restOf trace))) ≡ ranOf most trace old
       unfolding runRefusal ranOf
       ran-on h =
-          let accepted : runRefusal trace (length old) ≡ 0 = rw (set, le-ltb (length old) (lineWidth * byte 3 trace) wide, le-ltb (8 * mostSteps) (length (restOf trace)) h) in
-          ap (ranBy (shapeOf (setupFields trace)) (restOf trace) old) (sym (run-follows _ _ _ _ accepted))
+          let accepted : runRefusal most trace (length old) ≡ 0 = rw (set, le-ltb (length old) (lineWidth * byte 3 trace) wide, le-ltb (8 * mostSteps) (length (restOf trace)) h) in
+          ap (ranBy (shape trace) (restOf trace) old) (sym (run-follows _ _ _ _ accepted))

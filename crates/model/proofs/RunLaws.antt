@@ -150,7 +150,7 @@ module _ (first : ℕ) (tape : Tape) (x : State) (n : ℕ) where
 
 -- what the state says to the record at the front of bytes
 abbrev pub judgeAt : Shape → State → List ℕ → ℕ
-judgeAt u s bytes = judge u (rowOf s (stepFields bytes .process)) (s .last) (stepFields bytes)
+judgeAt u s bytes = judge u (rowOf s (stepFields bytes .process)) (s .newest) (stepFields bytes)
 
 -- what is kept by each accepted record of these bytes
 abbrev pub Keeps : Shape → List ℕ → (ℕ → State → Type 0) → Type 0
@@ -207,6 +207,6 @@ unfolding records
 records-whole u x rest e = omega (arith, reach-long u x rest (records rest) e)
 
 -- A TRACE of bytes, and its run
-pub run-ends : (trace : List ℕ) (room : ℕ) → runRefusal trace room ≡ 0 → (k : ℕ) {s : State} → reached trace k ≡ going s
-    → length (restOf trace) ≡ k * 8 → runOf trace room ≡ going s
-run-ends trace room h k e l = run-follows _ _ _ _ h ∙ ap (reached trace) (records-end (restOf trace) k l) ∙ e
+pub run-ends : (most : ℕ) (trace : List ℕ) (room : ℕ) → runRefusal most trace room ≡ 0 → (k : ℕ) {s : State} → reached most trace k ≡ going s
+    → length (restOf trace) ≡ k * 8 → runOf most trace room ≡ going s
+run-ends most trace room h k e l = run-follows _ _ _ _ h ∙ ap (reached most trace) (records-end (restOf trace) k l) ∙ e

@@ -8,16 +8,16 @@ use native.Mathlib.Omega.{arith}
 use lib.Dec.{eqb}
 use lib.ListN.{length}
 use borrow.Author.Tests.{eqb-true, eqb-false, ltb-false, le-ltb}
-use Rattle.terms.specs.Limits.{mostProcesses, mostSteps}
+use Rattle.terms.specs.Limits.{mostSteps}
 use Rattle.terms.proofs.RefusalLaws.{passed}
 use Rattle.records.specs.Record.{byte}
-use Rattle.setups.specs.Setup.{badStart, startBytes, setupRefusal, setupFields}
+use Rattle.setups.specs.Setup.{badStart, startBytes, places, setupRefusal}
 use Rattle.setups.proofs.SetupLaws.{AcceptedSetup, setup-said, start-good, slot-said, proposal-said, start-count, place-at, length-places}
 use Rattle.model.specs.declared.Kind.{Kind}
 use Rattle.model.specs.Routine.{routineOf}
 use Rattle.model.specs.Bounds.{Bytes, Sound, startOk, Starts}
 use Rattle.model.specs.Sizes.{lineWidth}
-use Rattle.model.specs.Run.{kindOf, shapeOf, restOf, runRefusal}
+use Rattle.model.specs.Run.{kindOf, shape, restOf, runRefusal}
 
 pub start-ok : (kind size x : ℕ) → badStart kind size x ≡ false → startOk (routineOf (kindOf kind)) size x
 start-ok kind size x good = by (eqb kind 1) refl (eqb kind 2)
@@ -27,11 +27,11 @@ start-ok kind size x good = by (eqb kind 1) refl (eqb kind 2)
     by false e true = proposal-said kind (eqb-false kind 1 e) size x good
     by false e false = proposal-said kind (eqb-false kind 1 e) size x good
 
-module _ (trace : List ℕ) (h : setupRefusal mostProcesses trace ≡ 0) where
-  said : AcceptedSetup mostProcesses trace
-  said = setup-said mostProcesses trace h
+module _ (most : ℕ) (trace : List ℕ) (h : setupRefusal most trace ≡ 0) where
+  said : AcceptedSetup most trace
+  said = setup-said most trace h
 
-  pub setup-sound : Bytes trace → Sound (shapeOf (setupFields trace))
+  pub setup-sound : Bytes trace → Sound (shape trace)
   setup-sound bytes =
       let l = said .head .limits in
       record {
@@ -41,31 +41,32 @@ module _ (trace : List ℕ) (h : setupRefusal mostProcesses trace ≡ 0) where
         bounded = omega (arith, bytes 6, bytes 7);
       }
 
-  pub setup-starts : Starts (shapeOf (setupFields trace)) (setupFields trace .starts)
+  pub setup-starts : Starts (shape trace) (places most (startBytes trace))
   setup-starts =
       let whole = said .head .whole in
+      let few = said .head .limits .few in
       record {
-        few = rw (length-places mostProcesses (startBytes trace) (omega (arith, start-count trace whole, said .head .limits .few))) (said .head .limits .few);
+        few = rw (length-places most (startBytes trace) (omega (arith, start-count trace whole, few))) few;
         each =
             λ j below.
-            rw (place-at trace whole mostProcesses j below)
-            (start-ok (byte 2 trace) (byte 4 trace) (byte (8 + j) trace) (start-good mostProcesses trace said j below));
+            rw (place-at trace whole most j below)
+            (start-ok (byte 2 trace) (byte 4 trace) (byte (8 + j) trace) (start-good most trace said j below));
       }
 
 -- a setup that is accepted, and room for the report and the steps
-pub record Runs (trace : List ℕ) (room : ℕ) : Type 0 where
-  pub setup : setupRefusal mostProcesses trace ≡ 0
+pub record Runs (most : ℕ) (trace : List ℕ) (room : ℕ) : Type 0 where
+  pub setup : setupRefusal most trace ≡ 0
   pub lines : lineWidth * byte 3 trace ≤ room
   pub short : length (restOf trace) ≤ 8 * mostSteps
 
-module _ (trace : List ℕ) (room : ℕ) where
-  pub run-said : runRefusal trace room ≡ 0 → Runs trace room
+module _ (most : ℕ) (trace : List ℕ) (room : ℕ) where
+  pub run-said : runRefusal most trace room ≡ 0 → Runs most trace room
   unfolding runRefusal
   run-said h =
       let p = passed 7 _ _ h in
       let q = passed 6 _ _ (p .0) in
       record { setup = q .0; lines = ltb-false _ _ (q .1); short = ltb-false _ _ (p .1) }
 
-  pub said-run : Runs trace room → runRefusal trace room ≡ 0
+  pub said-run : Runs most trace room → runRefusal most trace room ≡ 0
   unfolding runRefusal
   said-run r = simp (r .setup, le-ltb _ _ (r .lines), le-ltb _ _ (r .short))

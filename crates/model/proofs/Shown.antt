@@ -12,14 +12,13 @@ use lib.ListN.{length, getD, drop, List·getD-append}
 use lib.Seq.{getD-append-add}
 use Rattle.terms.specs.Refusal.{ifAccepted}
 use Rattle.records.specs.Record.{byte}
-use Rattle.setups.specs.Setup.{setupFields}
 use Rattle.model.specs.declared.Place.{Place}
 use Rattle.model.specs.declared.Shape.{Shape}
 use Rattle.model.specs.declared.Row.{Row}
 use Rattle.model.specs.declared.State.{State}
 use Rattle.model.specs.Routine.{Routine, routine}
 use Rattle.model.specs.Sizes.{lineWidth}
-use Rattle.model.specs.Run.{blank, rowAt, Tape, advance, follow, runOn, restOf, records, shapeOf, runOf, Progress, Progress.going, Progress.stopped}
+use Rattle.model.specs.Run.{blank, rowAt, Tape, advance, follow, runOn, restOf, records, shape, runOf, Progress, Progress.going, Progress.stopped}
 use Rattle.model.specs.Claims.{shown}
 use Rattle.model.specs.Report.{shownOf, shownPlace, figureOf, line, lines, reportOf, outcomeOf, ranOf}
 use Rattle.model.proofs.Places.{imply, settled, inside}
@@ -88,12 +87,12 @@ run-stopped-after zero tape x n e = (refl, stopped-after tape x n e)
 run-stopped-after (suc first) tape x n e = absurd (omega (arith, stopped-at e))
 
 -- so a run whose outcome is 0 went on to its end
-pub accepted-goes : (trace old : List ℕ) → ranOf trace old .outcome .number ≡ 0 → (s : State) × (runOf trace (length old) ≡ going s)
+pub accepted-goes : (most : ℕ) (trace old : List ℕ) → ranOf most trace old .outcome .number ≡ 0 → (s : State) × (runOf most trace (length old) ≡ going s)
 unfolding ranOf outcomeOf
-accepted-goes trace old e = by (runOf trace (length old)) refl e
+accepted-goes most trace old e = by (runOf most trace (length old)) refl e
   where
-    by : (p : Progress) → runOf trace (length old) ≡ p → outcomeOf (records (restOf trace)) p .number ≡ 0
-        → (s : State) × (runOf trace (length old) ≡ going s)
+    by : (p : Progress) → runOf most trace (length old) ≡ p → outcomeOf (records (restOf trace)) p .number ≡ 0
+        → (s : State) × (runOf most trace (length old) ≡ going s)
     by (going s) f z = (s, f)
     by (stopped x j) f z = absurd (run-number _ _ _ _ f z)
 
@@ -114,31 +113,31 @@ lines-at κ rows (suc n) j m h l = by (decLt j n) (λ g. lines-at κ rows n j m 
         let end : lineWidth * n ≡ length (lines κ rows n) = omega (arith, length-lines κ rows n) in
         rw (same, end) (getD-append-add (lines κ rows n) (line κ (getD rows n blank)) m 0)
 
-shown-at : (trace old : List ℕ) {s : State} → runOf trace (length old) ≡ going s → (j m : ℕ) → j < byte 3 trace → m < lineWidth
-    → shown trace old j m ≡ getD (line (routine (shapeOf (setupFields trace))) (rowAt s j)) m 0
+shown-at : (most : ℕ) (trace old : List ℕ) {s : State} → runOf most trace (length old) ≡ going s → (j m : ℕ) → j < byte 3 trace → m < lineWidth
+    → shown most trace old j m ≡ getD (line (routine (shape trace)) (rowAt s j)) m 0
 unfolding ranOf reportOf
-shown-at trace old {s} e j m h l =
-    let κ : Routine = routine (shapeOf (setupFields trace)) in
+shown-at most trace old {s} e j m h l =
+    let κ : Routine = routine (shape trace) in
     rw e
     (List·getD-append (lines κ (s .rows) (byte 3 trace)) (drop (length (lines κ (s .rows) (byte 3 trace))) old) 0 (lineWidth * j + m)
     (omega (arith, length-lines κ (s .rows) (byte 3 trace)))
     ∙ lines-at κ (s .rows) (byte 3 trace) j m h l)
 
 -- what the line of row j shows
-pub record Shows (trace old : List ℕ) (j : ℕ) (r : Row) : Type 0 where
-  pub place : shown trace old j 0 ≡ shownPlace r
-  pub figure : shown trace old j 1 ≡ figureOf (routine (shapeOf (setupFields trace))) r
-  pub moves : shown trace old j 2 ≡ r .moves
-  pub lates : shown trace old j 3 ≡ r .lates
+pub record Shows (most : ℕ) (trace old : List ℕ) (j : ℕ) (r : Row) : Type 0 where
+  pub place : shown most trace old j 0 ≡ shownPlace r
+  pub figure : shown most trace old j 1 ≡ figureOf (routine (shape trace)) r
+  pub moves : shown most trace old j 2 ≡ r .moves
+  pub lates : shown most trace old j 3 ≡ r .lates
 
-pub shows : (trace old : List ℕ) {s : State} → runOf trace (length old) ≡ going s → (j : ℕ) → j < byte 3 trace → Shows trace old j (rowAt s j)
+pub shows : (most : ℕ) (trace old : List ℕ) {s : State} → runOf most trace (length old) ≡ going s → (j : ℕ) → j < byte 3 trace → Shows most trace old j (rowAt s j)
 unfolding line
-shows trace old e j h =
+shows most trace old e j h =
     record {
-      place = shown-at trace old e j 0 h (omega arith);
-      figure = shown-at trace old e j 1 h (omega arith);
-      moves = shown-at trace old e j 2 h (omega arith);
-      lates = shown-at trace old e j 3 h (omega arith);
+      place = shown-at most trace old e j 0 h (omega arith);
+      figure = shown-at most trace old e j 1 h (omega arith);
+      moves = shown-at most trace old e j 2 h (omega arith);
+      lates = shown-at most trace old e j 3 h (omega arith);
     }
 
 -- a row that shows 5 is inside and one that shows 8 has decided, and neither has crashed

@@ -72,8 +72,8 @@ pub record Proposer (n y : ℕ) (seat : ℕ → Seat) : Type 0 where
   pub proposed : ownOf (seat who) ≡ y
   pub active : 0 < seat who .row .moves
 
-abbrev pub Proposed : ℕ → World → Type 0
-Proposed n w = w .value 0 ≢ 0 → Proposer n (w .value 0) (w .seat)
+abbrev pub HasProposer : ℕ → World → Type 0
+HasProposer n w = w .value 0 ≢ 0 → Proposer n (w .value 0) (w .seat)
 
 -- a seat with the same proposal and no fewer moves
 pub proposer-stays : (n y m : ℕ) (seat : ℕ → Seat) (s : Seat) → ownOf s ≡ ownOf (seat m) → seat m .row .moves ≤ s .row .moves → Proposer n y seat → Proposer n y (put seat m s)
@@ -81,7 +81,7 @@ proposer-stays n y m seat s e h p =
     let q = put-all (λ i x. (ownOf x ≡ ownOf (seat i)) × (seat i .row .moves ≤ x .row .moves)) {f = seat} {i = m} {a = s} (e, h) (λ i o. (refl, omega arith)) (p .who) in
     record { who = p .who; among = p .among; proposed = q .0 ∙ p .proposed; active = omega (arith, q .1, p .active) }
 
-pub proposed-along : (c : Pace) (u : Shape) → T (timedDecision (routine u)) → Along c u (Proposed (u .count))
+pub proposed-along : (c : Pace) (u : Shape) → T (timedDecision (routine u)) → Along c u (HasProposer (u .count))
 proposed-along c u n =
     record {
       on-move =
@@ -91,13 +91,13 @@ proposed-along c u n =
       on-crash = λ w m t old z. proposer-stays (u .count) _ m (w .seat) _ refl (omega arith) (old z);
     }
   where
-    go : (w : World) (m : ℕ) {y : ℕ} → m < u .count → Proposed (u .count) w → (s : Seat) → ownOf s ≡ ownOf (w .seat m) → w .seat m .row .moves < s .row .moves
+    go : (w : World) (m : ℕ) {y : ℕ} → m < u .count → HasProposer (u .count) w → (s : Seat) → ownOf s ≡ ownOf (w .seat m) → w .seat m .row .moves < s .row .moves
         → From w m y → y ≢ 0 → Proposer (u .count) y (put (w .seat) m s)
     go w m h old s e g (same q) z = rw q (proposer-stays (u .count) _ m (w .seat) s e (omega arith) (old (rw q at z)))
     go w m h old s e g (mine q) z =
         record { who = m; among = h; proposed = rw put-same (e ∙ sym q); active = rw put-same (omega arith) }
 
-pub proposed-start : (u : Shape) (w : World) → Bare (routine u) w → Proposed (u .count) w
+pub proposed-start : (u : Shape) (w : World) → Bare (routine u) w → HasProposer (u .count) w
 proposed-start u w bare z = absurd (z (bare .value 0))
 
 -- HOW MANY MOVES

@@ -17,15 +17,15 @@ use Rattle.records.specs.Record.{byte}
 use Rattle.model.specs.declared.Place.{Place}
 use Rattle.model.specs.declared.State.{State}
 use Rattle.model.specs.Bounds.{Bytes}
-use Rattle.model.specs.Run.{rowAt, rowOf, move, restOf, records, startOf, runOf, Progress.going, Progress.stopped}
+use Rattle.model.specs.Run.{rowAt, rowOf, move, shape, restOf, records, startOf, runOf, Progress.going, Progress.stopped}
 use Rattle.model.specs.Report.{ranOf}
-use Rattle.model.specs.Claims.{At, shape, Inside, Occupies, Decides, Proposed, Within, movesIn, latesIn, shown, ShownProposed, ShownWithin}
+use Rattle.model.specs.Claims.{At, Inside, Occupies, Decides, Proposed, Within, movesIn, latesIn, shown, ShownProposed, ShownWithin}
 use Rattle.model.proofs.Counts.{Counted, reach-counts}
 use Rattle.model.proofs.Consequences.{one-inside, number-stands, leaves-in-time, leaves-empty, one-decision, decision-stands, plain-bound, fast-bound}
 use Rattle.model.proofs.Reached.{run-led, refused-led, point, proposed-there, stays-decided, rows-exclude, rows-agree, row-proposed, row-plain, row-fast}
 
 -- AT EVERY POINT of a run: s is the state after the first k records, all of them accepted
-module _ {trace : List ℕ} {k : ℕ} {s : State} (at : At trace k s) where
+module _ {most : ℕ} {trace : List ℕ} {k : ℕ} {s : State} (at : At most trace k s) where
   -- Exclusion: two that are inside one slot, crashed or not, are one.
   pub exclusion : (c : SlotNumber) (i j : ℕ) → Inside s i c → Inside s j c → i ≡ j
   exclusion c i j a b = one-inside (point at) j (rw (b .0) tt) i (rw (a .0) tt) (ap (λ (d : SlotNumber). d .0) (a .1 ∙ sym (b .1)))
@@ -64,22 +64,22 @@ module _ {trace : List ℕ} {k : ℕ} {s : State} (at : At trace k s) where
   fast-moves three = fast-bound (point at) (rw three)
 
   -- Counts: these moves and late writes are counts of the records of the trace ..
-  pub counts : (j : ℕ) → Counted (shape trace) (startOf trace) (restOf trace) k j (rowAt s j)
+  pub counts : (j : ℕ) → Counted (shape trace) (startOf most trace) (restOf trace) k j (rowAt s j)
   counts j = reach-counts _ (point at .sound) _ (point at .starts) (restOf trace) k (at .led) j
 
   -- .. so the bounds are bounds on the trace.
-  pub plain-records : byte 2 trace ≡ 2 → (j : ℕ) → movesIn trace j k ≤ 5 + 2 * latesIn trace j k
+  pub plain-records : byte 2 trace ≡ 2 → (j : ℕ) → movesIn trace j k ≤ 5 + 2 * latesIn most trace j k
   plain-records two j = rw (← counts j .moves, ← counts j .lates) (plain-moves two j .bounded)
 
-  pub fast-records : byte 2 trace ≡ 3 → (j : ℕ) → movesIn trace j k ≤ byte 4 trace + 5 + 2 * latesIn trace j k
+  pub fast-records : byte 2 trace ≡ 3 → (j : ℕ) → movesIn trace j k ≤ byte 4 trace + 5 + 2 * latesIn most trace j k
   fast-records three j = rw (← counts j .moves, ← counts j .lates) (fast-moves three j .bounded)
 
 -- FROM POINT TO POINT: who has decided keeps its decision, so decisions at any two points of a run agree.
-pub decided-for-good : {trace : List ℕ} {j k : ℕ} {s t : State} → At trace j s → At trace k t → j ≤ k → (i v : ℕ) → Decides s i v → Decides t i v
+pub decided-for-good : {most : ℕ} {trace : List ℕ} {j k : ℕ} {s t : State} → At most trace j s → At most trace k t → j ≤ k → (i v : ℕ) → Decides s i v → Decides t i v
 decided-for-good = stays-decided
 
-pub agreement-ever : {trace : List ℕ} {j k : ℕ} {s t : State} → At trace j s → At trace k t → (i m v w : ℕ) → Decides s i v → Decides t m w → v ≡ w
-agreement-ever {trace} {j} {k} {s} {t} at at′ i m v w a b = by (decLt j k)
+pub agreement-ever : {most : ℕ} {trace : List ℕ} {j k : ℕ} {s t : State} → At most trace j s → At most trace k t → (i m v w : ℕ) → Decides s i v → Decides t m w → v ≡ w
+agreement-ever {most} {trace} {j} {k} {s} {t} at at′ i m v w a b = by (decLt j k)
   where
     by : Dec (j < k) → v ≡ w
     by (yes h) = agreement at′ i m v w (decided-for-good at at′ (omega arith) i v a) b
@@ -87,31 +87,31 @@ agreement-ever {trace} {j} {k} {s} {t} at at′ i m v w a b = by (decLt j k)
 
 -- OF A WHOLE RUN: an accepted run ends in such a state, after all its records; and one that is refused at record k + 1 had reached one after k. All
 -- of the above holds of them.
-pub run-at : (trace : List ℕ) (room : ℕ) {s : State} → Bytes trace → runOf trace room ≡ going s → At trace (records (restOf trace)) s
+pub run-at : (most : ℕ) (trace : List ℕ) (room : ℕ) {s : State} → Bytes trace → runOf most trace room ≡ going s → At most trace (records (restOf trace)) s
 run-at = run-led
 
-pub refused-at : (trace : List ℕ) (room : ℕ) {x k : ℕ} → Bytes trace → runOf trace room ≡ stopped x (suc k) → (s : State) × At trace k s
+pub refused-at : (most : ℕ) (trace : List ℕ) (room : ℕ) {x k : ℕ} → Bytes trace → runOf most trace room ≡ stopped x (suc k) → (s : State) × At most trace k s
 refused-at = refused-led
 
 -- IN THE REPORT'S OWN NUMBERS, of an accepted run, for rows below n
-module _ (trace old : List ℕ) (bytes : Bytes trace) (accepted : ranOf trace old .outcome .number ≡ 0) where
+module _ (most : ℕ) (trace old : List ℕ) (bytes : Bytes trace) (accepted : ranOf most trace old .outcome .number ≡ 0) where
   -- Exclusion: no two rows show place 5 and one c.
-  pub report-exclusion : (i j : ℕ) → i < byte 3 trace → j < byte 3 trace → shown trace old i 0 ≡ 5 → shown trace old j 0 ≡ 5
-      → shown trace old i 1 ≡ shown trace old j 1 → i ≡ j
-  report-exclusion = rows-exclude trace old bytes accepted
+  pub report-exclusion : (i j : ℕ) → i < byte 3 trace → j < byte 3 trace → shown most trace old i 0 ≡ 5 → shown most trace old j 0 ≡ 5
+      → shown most trace old i 1 ≡ shown most trace old j 1 → i ≡ j
+  report-exclusion = rows-exclude most trace old bytes accepted
 
   -- Agreement: no two rows show place 8 and different values.
-  pub report-agreement : (i j : ℕ) → i < byte 3 trace → j < byte 3 trace → shown trace old i 0 ≡ 8 → shown trace old j 0 ≡ 8
-      → shown trace old i 1 ≡ shown trace old j 1
-  report-agreement = rows-agree trace old bytes accepted
+  pub report-agreement : (i j : ℕ) → i < byte 3 trace → j < byte 3 trace → shown most trace old i 0 ≡ 8 → shown most trace old j 0 ≡ 8
+      → shown most trace old i 1 ≡ shown most trace old j 1
+  report-agreement = rows-agree most trace old bytes accepted
 
   -- Validity: a row with place 8 shows the start byte of a row with moves.
-  pub report-validity : (j : ℕ) → j < byte 3 trace → shown trace old j 0 ≡ 8 → ShownProposed trace old j
-  report-validity = row-proposed trace old bytes accepted
+  pub report-validity : (j : ℕ) → j < byte 3 trace → shown most trace old j 0 ≡ 8 → ShownProposed most trace old j
+  report-validity = row-proposed most trace old bytes accepted
 
   -- Moves: no row is past its bound, and at its bound it shows 8, unless it crashed.
-  pub report-plain-moves : byte 2 trace ≡ 2 → (j : ℕ) → j < byte 3 trace → ShownWithin (5 + 2 * shown trace old j 3) trace old j
-  report-plain-moves two j h = row-plain trace old bytes accepted j h two
+  pub report-plain-moves : byte 2 trace ≡ 2 → (j : ℕ) → j < byte 3 trace → ShownWithin (5 + 2 * shown most trace old j 3) most trace old j
+  report-plain-moves two j h = row-plain most trace old bytes accepted j h two
 
-  pub report-fast-moves : byte 2 trace ≡ 3 → (j : ℕ) → j < byte 3 trace → ShownWithin (byte 4 trace + 5 + 2 * shown trace old j 3) trace old j
-  report-fast-moves three j h = row-fast trace old bytes accepted j h three
+  pub report-fast-moves : byte 2 trace ≡ 3 → (j : ℕ) → j < byte 3 trace → ShownWithin (byte 4 trace + 5 + 2 * shown most trace old j 3) most trace old j
+  report-fast-moves three j h = row-fast most trace old bytes accepted j h three

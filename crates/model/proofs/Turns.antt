@@ -44,9 +44,9 @@ module _ (u : Shape) (s : State) (k : Step) where
       by true e = goes e
       by false e = stops e
 
-  pub last-after : after u s k .last ≡ k .tick
+  pub newest-after : after u s k .newest ≡ k .tick
   unfolding moveAt stop
-  last-after = move-or-stop (λ x. x .last ≡ k .tick) (λ e. refl) (λ e. refl)
+  newest-after = move-or-stop (λ x. x .newest ≡ k .tick) (λ e. refl) (λ e. refl)
 
   -- what holds of the other rows as they were, and of the row that stopped or went, holds of every row
   pub turn : indexOf (k .process) < length (s .rows) → (P : ℕ → Row → Type 0) → ((j : ℕ) → j ≢ indexOf (k .process) → P j (rowAt s j))

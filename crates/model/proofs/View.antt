@@ -60,11 +60,11 @@ getD-put l i a d h = fun-ext (put-all (λ j y. getD (set l i a) j d ≡ y) (getD
 -- one seat is new, where nobody else's deadline changed
 pub seats : (s : State) (m t : ℕ) (r : Row) (b : Bank) (f : Shared) → m < length (s .rows)
     → ((j : ℕ) → j ≢ m → deadlineOf b j (rowAt s j .local .slot) ≡ deadlineOf (s .bank) j (rowAt s j .local .slot))
-    → seatOf (record { rows = set (s .rows) m r; bank = b; shared = f; last = t })
+    → seatOf (record { rows = set (s .rows) m r; bank = b; shared = f; newest = t })
     ≡ put (seatOf s) m (record { row = r; deadline = deadlineOf b m (r .local .slot) })
 seats s m t r b f h others =
     fun-ext
-    (put-all (λ j y. seatOf (record { rows = set (s .rows) m r; bank = b; shared = f; last = t }) j ≡ y) (rw (getD-set-same (s .rows) m r blank h))
+    (put-all (λ j y. seatOf (record { rows = set (s .rows) m r; bank = b; shared = f; newest = t }) j ≡ y) (rw (getD-set-same (s .rows) m r blank h))
     (λ j n. rw (getD-set-other (s .rows) m j r blank n, others j n)))
 
 -- two pairs are apart where the processes are, so a deadline set for one process leaves another's

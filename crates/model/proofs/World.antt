@@ -29,12 +29,12 @@ pub record World : Type 0 where
   pub floor : ℕ
 
 -- a test of the place
-abbrev pub At : (Place → Bool) → Seat → Type 0
-At f s = T (f (s .row .local .place))
+abbrev pub Placed : (Place → Bool) → Seat → Type 0
+Placed f s = T (f (s .row .local .place))
 
 -- a process whose put is pending, crashed or not
 abbrev pub Putting : Seat → Type 0
-Putting = At putting
+Putting = Placed putting
 
 abbrev pub slotAt : Seat → ℕ
 slotAt s = s .row .local .slot .0

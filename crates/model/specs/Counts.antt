@@ -21,17 +21,17 @@ howMany test (suc k) = howMany test k + cond (test k) 1 0
 abbrev pub moveOf : ProcessNumber → Step → Bool
 moveOf i k = eqb (k .process .0) (i .0) && isMove k
 
--- what memory says to the move k in the state s; whether the write of a move was late, where the records before it led
+-- what memory says to the move k in the state s; whether its write was late, where the records before it led
 abbrev pub replyTo : Shape → State → Step → Reply
 replyTo u s k = reply (s .bank) (s .shared) (k .process) (k .tick) (askAt (rowOf s (k .process) .local .place) (u .delta) (rowOf s (k .process)))
 
-abbrev pub lateIn : Shape → Progress → Step → Bool
-lateIn u (going s) k = replyTo u s k .late
-lateIn u (stopped x j) k = false
+abbrev pub wroteLate : Shape → Progress → Step → Bool
+wroteLate u (going s) k = replyTo u s k .late
+wroteLate u (stopped x j) k = false
 
 -- of the first k records of these bytes, the moves of process i, and those of them whose write was late
 abbrev pub movesOf : List ℕ → ProcessNumber → ℕ → ℕ
 movesOf rest i k = howMany (λ j. moveOf i (stepAt rest j)) k
 
 abbrev pub latesOf : Shape → State → List ℕ → ProcessNumber → ℕ → ℕ
-latesOf u x rest i k = howMany (λ j. lateIn u (reach u x rest j) (stepAt rest j) && moveOf i (stepAt rest j)) k
+latesOf u x rest i k = howMany (λ j. wroteLate u (reach u x rest j) (stepAt rest j) && moveOf i (stepAt rest j)) k

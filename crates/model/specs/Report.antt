@@ -4,13 +4,12 @@ use mathlib.Core.Bool.{cond}
 use mathlib.Core.List.{List, [], _∷_, _++_}
 use lib.ListN.{length, getD}
 use Rattle.terms.specs.Overlay.{overlay}
-use Rattle.setups.specs.Setup.{setupFields}
 use Rattle.model.specs.declared.Place.{Place}
 use Rattle.model.specs.declared.Shape.{Shape}
 use Rattle.model.specs.declared.Row.{Row}
 use Rattle.model.specs.declared.Outcome.{Outcome}
 use Rattle.model.specs.Routine.{Routine, routine}
-use Rattle.model.specs.Run.{blank, Progress, Progress.going, Progress.stopped, shapeOf, restOf, records, runOf}
+use Rattle.model.specs.Run.{blank, Progress, Progress.going, Progress.stopped, shape, restOf, records, runOf}
 
 -- what the report shows of a place
 abbrev pub shownOf : Place → ℕ
@@ -57,10 +56,10 @@ pub record Ran : Type 0 where
   pub outcome : Outcome
   pub report : List ℕ
 
--- what a run of a trace returns, and what it leaves in a report that held `old`
-unfoldable pub ranOf : List ℕ → List ℕ → Ran
-ranOf trace old =
+-- what a run of a trace for up to `most` processes returns, and what it leaves in a report that held `old`
+unfoldable pub ranOf : ℕ → List ℕ → List ℕ → Ran
+ranOf most trace old =
     record {
-      outcome = outcomeOf (records (restOf trace)) (runOf trace (length old));
-      report = reportOf (shapeOf (setupFields trace)) old (runOf trace (length old));
+      outcome = outcomeOf (records (restOf trace)) (runOf most trace (length old));
+      report = reportOf (shape trace) old (runOf most trace (length old));
     }

@@ -5,7 +5,7 @@ use mathlib.Core.List.{List, [], _∷_}
 use lib.Dec.{eqb, ltb}
 use lib.ListN.{length, drop, getD, set, replicate}
 use Rattle.terms.specs.declared.ProcessNumber.{ProcessNumber}
-use Rattle.terms.specs.Limits.{mostProcesses, mostSlots, mostSteps, unlimited}
+use Rattle.terms.specs.Limits.{mostSlots, mostSteps, unlimited}
 use Rattle.terms.specs.Numbers.{indexOf, slotOf}
 use Rattle.terms.specs.Refusal.{refuse, _then_, ifAccepted}
 use Rattle.bank.specs.declared.Bank.{Bank}
@@ -13,7 +13,7 @@ use Rattle.bank.specs.Registers.{bankOf}
 use Rattle.setups.specs.declared.Setup.{Setup}
 use Rattle.steps.specs.declared.Step.{Step}
 use Rattle.records.specs.Record.{byte}
-use Rattle.setups.specs.Setup.{setupRefusal, setupFields}
+use Rattle.setups.specs.Setup.{places, startBytes, setupRefusal, setupFields}
 use Rattle.steps.specs.Step.{stepRefusal, stepFields}
 use Rattle.model.specs.Sizes.{lineWidth, flagCount}
 use Rattle.model.specs.declared.Place.{Place}
@@ -59,7 +59,7 @@ fresh u starts =
       rows = startRows u 0 starts;
       bank = freshBankOf (length starts);
       shared = record { flags = replicate flagCount false };
-      last = 0;
+      newest = 0;
     }
 
 -- A MOVE of process i at tick t, at place p; and a crash
@@ -72,7 +72,7 @@ moveAt u p s i t =
       rows = set (s .rows) (indexOf i) (rowAfter u p (wakeAt (u .delta) t) r (reply (s .bank) (s .shared) i t q));
       bank = bankAfter (s .bank) i t q;
       shared = sharedAfter (s .shared) q;
-      last = t;
+      newest = t;
     }
 
 abbrev pub move : Shape → State → ProcessNumber → ℕ → State
@@ -80,7 +80,7 @@ move u s i t = moveAt u (rowOf s i .local .place) s i t
 
 unfoldable pub stop : State → ProcessNumber → ℕ → State
 stop s i t =
-    record { rows = set (s .rows) (indexOf i) (crash (rowOf s i)); bank = s .bank; shared = s .shared; last = t }
+    record { rows = set (s .rows) (indexOf i) (crash (rowOf s i)); bank = s .bank; shared = s .shared; newest = t }
 
 -- A RECORD
 
@@ -100,7 +100,7 @@ judge u r newest k =
 
 -- 9 to 16, of the record at the beginning of s
 unfoldable pub recordRefusal : Shape → State → List ℕ → ℕ
-recordRefusal u x s = stepRefusal (u .count) s then judge u (rowOf x (stepFields s .process)) (x .last) (stepFields s)
+recordRefusal u x s = stepRefusal (u .count) s then judge u (rowOf x (stepFields s .process)) (x .newest) (stepFields s)
 
 -- A TRACE: the state that the records so far left, or the first refusal and its record
 
@@ -154,22 +154,26 @@ kindOf k = cond (eqb k 1) Kind.Lock (cond (eqb k 2) Kind.Plain Kind.Fast)
 abbrev pub shapeOf : Setup → Shape
 shapeOf f = record { kind = kindOf (f .kind); count = f .processes; size = f .size; delta = f .delta }
 
+-- what a trace's setup says of the run, and the bytes behind it
+abbrev pub shape : List ℕ → Shape
+shape trace = shapeOf (setupFields trace)
+
 abbrev pub restOf : List ℕ → List ℕ
 restOf trace = drop (8 + byte 3 trace) trace
 
--- 1 to 6; 7; 8; with a report of `room` numbers
-unfoldable pub runRefusal : List ℕ → ℕ → ℕ
-runRefusal trace room =
-    setupRefusal mostProcesses trace
+-- 1 to 6; 7; 8; for up to `most` processes, with a report of `room` numbers
+unfoldable pub runRefusal : ℕ → List ℕ → ℕ → ℕ
+runRefusal most trace room =
+    setupRefusal most trace
     then refuse 7 (ltb room (lineWidth * byte 3 trace))
     then refuse 8 (ltb (8 * mostSteps) (length (restOf trace)))
 
 -- the state that a trace's setup begins with, and what its first k records lead to
-abbrev pub startOf : List ℕ → State
-startOf trace = fresh (shapeOf (setupFields trace)) (setupFields trace .starts)
+abbrev pub startOf : ℕ → List ℕ → State
+startOf most trace = fresh (shape trace) (places most (startBytes trace))
 
-abbrev pub reached : List ℕ → ℕ → Progress
-reached trace k = reach (shapeOf (setupFields trace)) (startOf trace) (restOf trace) k
+abbrev pub reached : ℕ → List ℕ → ℕ → Progress
+reached most trace k = reach (shape trace) (startOf most trace) (restOf trace) k
 
-abbrev pub runOf : List ℕ → ℕ → Progress
-runOf trace room = runOn (runRefusal trace room) (stepTape (shapeOf (setupFields trace)) (restOf trace)) (startOf trace) (records (restOf trace))
+abbrev pub runOf : ℕ → List ℕ → ℕ → Progress
+runOf most trace room = runOn (runRefusal most trace room) (stepTape (shape trace) (restOf trace)) (startOf most trace) (records (restOf trace))

@@ -74,12 +74,12 @@ pub struct Shared {
     pub flags: [bool; FLAGS],
 }
 
-// The state of a run. Its last tick is that of the last accepted step; the bank's moves with reads and writes only.
+// The state of a run. `newest` is the tick of the newest accepted step; the bank's last tick moves with reads and writes only.
 pub struct State {
     pub rows: [Row; ROWS],
     pub bank: Bank,
     pub shared: Shared,
-    pub last: u32,
+    pub newest: u32,
 }
 
 // The one operation of memory at a move: none; a read with a wait; a write; a flag set, or read.
@@ -167,7 +167,7 @@ impl State {
             shared: Shared {
                 flags: [false; FLAGS],
             },
-            last: 0,
+            newest: 0,
         }
     }
 }

@@ -1,6 +1,7 @@
 -- `put_number` meets its contract, by recursion on the tenth of the number, which is its measure. A tenth has one digit less, so the last one has room.
 -- Assumes nothing.
 use Rattle.listing.proofs.PutLaws.{put-then, put-is, put-within, decimal-length, decimal-last, decimal-tenth, decimal-more}
+use Rattle.listing.specs.Text.{mostDigits}
 use borrow.Author.Needs.{needs}
 use native.Mathlib.Omega.{arith}
 use Prim.Native.Nat.{ℕ, _<_}
@@ -31,9 +32,9 @@ put-number-returns : (t : ℕ) → put-number-lts.Need-returns (
   put-number.Post,
 ) (put-number-at t) put-number.Post
 put-number-returns t c =
-    let b = c .before .before in
-    let x = b .before .before .before .before .args .x in
-    put-within (put-is (b .put-byte .ensures) (decimal-last x (omega arith))) 10 (decimal-length x)
+    let digit = c .before .before in
+    let x = digit .before .before .before .before .args .x in
+    put-within (put-is (digit .put-byte .ensures) (decimal-last x (omega arith))) mostDigits (decimal-length x)
 
 put-number-put-byte-requires-2 : (t : ℕ) → put-number-lts.Need-put-byte-requires-2 (
   put-byte-reads.Asked,
@@ -41,7 +42,10 @@ put-number-put-byte-requires-2 : (t : ℕ) → put-number-lts.Need-put-byte-requ
   put-number-below t,
   put-number.Post,
 ) (put-number-at t) put-number.Post
-put-number-put-byte-requires-2 t c κs = omega (arith, decimal-tenth (c .before .before .before .before .before .before .before .args .x) (omega arith))
+put-number-put-byte-requires-2 t c κs =
+    let tenth = c .before .before .before in
+    let x = tenth .before .before .before .before .args .x in
+    omega (arith, decimal-tenth x (omega arith))
 
 put-number-returns-2 : (t : ℕ) → put-number-lts.Need-returns-2 (
   put-byte-reads.Asked,
@@ -50,10 +54,11 @@ put-number-returns-2 : (t : ℕ) → put-number-lts.Need-returns-2 (
   put-number.Post,
 ) (put-number-at t) put-number.Post
 put-number-returns-2 t c =
-    let b = c .before .before in
-    let n = b .before .before .before .before in
-    let x = n .before .before .before .before .args .x in
-    put-within (put-is (put-then (n .put-number .ensures) (b .put-byte2 .ensures)) (decimal-more x (omega arith) (omega arith))) 10 (decimal-length x)
+    let digit = c .before .before in
+    let tenth = digit .before .before .before .before in
+    let x = tenth .before .before .before .before .args .x in
+    let both = put-then (tenth .put-number .ensures) (digit .put-byte2 .ensures) in
+    put-within (put-is both (decimal-more x (omega arith) (omega arith))) mostDigits (decimal-length x)
 
 pub +put-number-spec : {M : Type 1} → statement M
 +put-number-spec =

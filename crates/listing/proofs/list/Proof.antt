@@ -10,19 +10,22 @@ use Rattle.listing.proofs.list.Tie as tie
 
 returns : tie.Need-returns
 returns c =
-    let input = c .before .before .before .before .before .args .input .now in
-    listed (c .put-word .ensures) input (text-over input (c .before .before .before .if1 .taken))
+    let over = c .before .before .before in
+    let input = over .before .before .args .input .now in
+    listed (c .put-word .ensures) input (text-over input (over .if1 .taken))
 
 put-ran-requires : tie.Need-put-ran-requires
 put-ran-requires c κs =
-    let r = c .before .before .before in
-    (λ h. accepted-fits (r .before .before .before .before .args .input .now) (replicate reportWidth 0) (rw (← r .run .ensures) h), omega arith)
+    let ran = c .before .before .before in
+    let input = ran .before .before .before .before .args .input .now in
+    (λ h. accepted-fits input (replicate reportWidth 0) (rw (← ran .run .ensures) h), omega arith)
 
 returns-2 : tie.Need-returns-2
 returns-2 c =
-    let r = c .before .before .before .before in
-    let input = r .before .before .before .before .args .input .now in
-    listed (c .put-ran .ensures) input (text-ran input (r .before .before .if1 .left) _ (r .run .ensures))
+    let ran = c .before .before .before .before in
+    let within = ran .before .before in
+    let input = within .before .before .args .input .now in
+    listed (c .put-ran .ensures) input (text-ran input (within .if1 .left) _ (ran .run .ensures))
 
 pub list-spec : {M : Type 1} → statement M
 list-spec =

@@ -5,7 +5,10 @@ use Rattle.listing.proofs.put_figure.Statement.{statement}
 use Rattle.listing.proofs.put_figure.Tie as tie
 
 returns : tie.Need-returns
-returns c = let b = c .before .before in put-then (b .before .before .before .before .put-number .ensures) (b .put-byte .ensures)
+returns c =
+    let after = c .before .before in
+    let number = after .before .before .before .before in
+    put-then (number .put-number .ensures) (after .put-byte .ensures)
 
 pub put-figure-spec : {M : Type 1} → statement M
 put-figure-spec =

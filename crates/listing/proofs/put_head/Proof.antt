@@ -6,13 +6,15 @@ use Rattle.listing.proofs.put_head.Tie as tie
 
 returns : tie.Need-returns
 returns c =
-    let f = c .before .before in
-    let e = f .before .before .before .before in
-    let d = e .before .before .before .before .before in
-    let w = d .before .before .before .before in
-    let b = w .before .before .before .before .before in
-    let a = b .before .before .before .before in
-    put-then (put-then (put-then (put-then (put-then (a .put-word .ensures) (b .put-number .ensures)) (w .put-word2 .ensures)) (d .put-number2 .ensures)) (e .put-word3 .ensures)) (f .put-figure .ensures)
+    let accepted = c .before .before in
+    let recordsWord = accepted .before .before .before .before in
+    let n = recordsWord .before .before .before .before .before in
+    let processesWord = n .before .before .before .before in
+    let kind = processesWord .before .before .before .before .before in
+    let kindWord = kind .before .before .before .before in
+    let two = put-then (kindWord .put-word .ensures) (kind .put-number .ensures) in
+    let four = put-then (put-then two (processesWord .put-word2 .ensures)) (n .put-number2 .ensures) in
+    put-then (put-then four (recordsWord .put-word3 .ensures)) (accepted .put-figure .ensures)
 
 pub put-head-spec : {M : Type 1} → statement M
 put-head-spec =

@@ -7,12 +7,14 @@ use Rattle.listing.proofs.put_line.Tie as tie
 
 returns : tie.Need-returns
 returns c =
-    let e = c .before .before in
-    let d = e .before .before .before .before .before in
-    let f = d .before .before .before .before .before in
-    let b = f .before .before .before .before .before in
-    let a = b .before .before .before .before .before in
-    simp append-assoc at (put-then (put-then (put-then (put-then (a .put-figure .ensures) (b .put-figure2 .ensures)) (f .put-figure3 .ensures)) (d .put-figure4 .ensures)) (e .put-figure5 .ensures))
+    let lates = c .before .before in
+    let moves = lates .before .before .before .before .before in
+    let second = moves .before .before .before .before .before in
+    let place = second .before .before .before .before .before in
+    let number = place .before .before .before .before .before in
+    let two = put-then (number .put-figure .ensures) (place .put-figure2 .ensures) in
+    let four = put-then (put-then two (second .put-figure3 .ensures)) (moves .put-figure4 .ensures) in
+    simp append-assoc at (put-then four (lates .put-figure5 .ensures))
 
 pub put-line-spec : {M : Type 1} → statement M
 put-line-spec =

@@ -1,6 +1,7 @@
--- `put_lines` meets its contract. The loop's invariant: the lines of the first j processes stand in the buffer, 55 bytes each at most.
+-- `put_lines` meets its contract. The loop's invariant: the lines of the first j processes stand in the buffer.
 -- Assumes nothing.
 use Rattle.listing.proofs.PutLaws.{put-then, put-is, put-within, put-none, lines-more}
+use Rattle.listing.specs.Sizes.{lineBytes}
 use Rattle.listing.specs.Text.{processLines}
 use Rattle.listing.specs.Put.{Put}
 use native.Mathlib.Omega.{arith}
@@ -11,24 +12,34 @@ use Rattle.listing.proofs.put_lines.Statement.{statement}
 use Rattle.listing.proofs.put_lines.Tie as tie
 
 abbrev Inv-loop : tie.InvT-loop
-Inv-loop report n at text₀ next₀ j₀ text next j = (j ≤ n) × (length text ≡ length text₀) × Put (55 * j) at (processLines report j) text₀ next text
+Inv-loop report n at text₀ next₀ j₀ text next j =
+    (j ≤ n) × (length text ≡ length text₀) × Put (lineBytes * j) at (processLines report j) text₀ next text
 
 abbrev μ-loop : tie.MeasureT-loop
 μ-loop report n at text₀ next₀ j₀ text next j = n - j
 
 loop-holds : tie.Need-loop-holds Inv-loop μ-loop
 unfolding processLines
-loop-holds c = (omega arith, refl, put-none (c .before .args .at) (c .before .args .text .now) (omega arith))
+loop-holds c =
+    let start = c .before in
+    (omega arith, refl, put-none (start .args .at) (start .args .text .now) (omega arith))
 
 loop-again : tie.Need-loop-again Inv-loop μ-loop
 loop-again c =
-    let b = c .before .before in
-    let l = b .before .before .before .loop in
-    let more = put-is (put-then (l .inv .2) (b .put-line .ensures)) (lines-more (b .before .before .before .before .before .args .report .now) (l .j)) in
-    (omega arith, omega arith, put-within more (55 * (l .j + 1)) (omega arith))
+    let line = c .before .before in
+    let looping = line .before .before .before in
+    let start = looping .before .before in
+    let j = looping .loop .j in
+    let both = put-then (looping .loop .inv .2) (line .put-line .ensures) in
+    let more = put-is both (lines-more (start .args .report .now) j) in
+    (omega arith, omega arith, put-within more (lineBytes * (j + 1)) (omega arith))
 
 returns : tie.Need-returns Inv-loop μ-loop
-returns c = let n : c .before .loop .j ≡ c .before .before .before .args .n = omega arith in rw (← n) (c .before .loop .inv .2)
+returns c =
+    let looping = c .before in
+    let start = looping .before .before in
+    let all : looping .loop .j ≡ start .args .n = omega arith in
+    rw (← all) (looping .loop .inv .2)
 
 pub put-lines-spec : {M : Type 1} → statement M
 put-lines-spec =

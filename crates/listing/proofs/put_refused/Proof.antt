@@ -6,11 +6,12 @@ use Rattle.listing.proofs.put_refused.Tie as tie
 
 returns : tie.Need-returns
 returns c =
-    let d = c .before .before in
-    let w = d .before .before .before .before in
-    let b = w .before .before .before .before .before in
-    let a = b .before .before .before .before in
-    put-then (put-then (put-then (a .put-word .ensures) (b .put-number .ensures)) (w .put-word2 .ensures)) (d .put-figure .ensures)
+    let index = c .before .before in
+    let atRecordWord = index .before .before .before .before in
+    let number = atRecordWord .before .before .before .before .before in
+    let refusedWord = number .before .before .before .before in
+    let two = put-then (refusedWord .put-word .ensures) (number .put-number .ensures) in
+    put-then (put-then two (atRecordWord .put-word2 .ensures)) (index .put-figure .ensures)
 
 pub put-refused-spec : {M : Type 1} → statement M
 put-refused-spec =

@@ -6,9 +6,11 @@ use Rattle.listing.proofs.put_word.Tie as tie
 
 returns : tie.Need-returns
 returns c =
-    let b = c .before .before in
-    let a = b .before .before .before .before .args in
-    rw (b .copy .ensures .0) (put-copied (a .word .now) (a .at) (a .text .now) (b .copy .last .1 .0) (b .before .before .before .before .pre) (b .copy .ensures .1))
+    let copied = c .before .before in
+    let start = copied .before .before .before .before in
+    let a = start .args in
+    let part = copied .copy .last .1 .0 in
+    rw (copied .copy .ensures .0) (put-copied (a .word .now) (a .at) (a .text .now) part (start .pre) (copied .copy .ensures .1))
 
 pub put-word-spec : {M : Type 1} → statement M
 put-word-spec =
