@@ -34,7 +34,8 @@ use Rattle.model.proofs.Keeping.{slot-small, fresh-rows, each-kept}
 use Rattle.model.proofs.View.{view}
 use Rattle.model.proofs.Invariants.{Inv, Along, nothing, Good, Bare, reach-good}
 use Rattle.model.proofs.Shown.{shows-inside, shows-decided, decided-shows, neither-shows}
-use Rattle.model.proofs.Tally.{Proposer, HasProposer, proposed-along, proposed-start, Cap, Capped, capped-along, capped-start, plain-within, fast-within}
+use Rattle.model.proofs.Tally.{Proposer, HasProposer, proposed-along, proposed-start, Cap, Capped, capped-along, capped-start, plain-within}
+use Rattle.model.proofs.Tally.{fast-within}
 
 -- THE KIND, from a place
 

@@ -15,7 +15,8 @@ use Rattle.setups.specs.Setup.{places}
 use Rattle.model.specs.declared.Shape.{Shape}
 use Rattle.model.specs.declared.State.{State}
 use Rattle.model.specs.Routine.{routine}
-use Rattle.model.specs.Run.{fresh, recordRefusal, Progress, Progress.going, Progress.stopped, recordAt, advance, follow, stepTape, reach, records, shape, restOf, startOf, reached, runRefusal, runOf}
+use Rattle.model.specs.Run.{fresh, recordRefusal, Progress, Progress.going, Progress.stopped, recordAt, advance, follow, stepTape, reach}
+use Rattle.model.specs.Run.{records, shape, restOf, startOf, reached, runRefusal, runOf}
 use Rattle.model.specs.Claims.{cutAt, CutThere}
 use Rattle.model.specs.Report.{lines, reportOf, outcomeOf, ranOf}
 use Rattle.model.proofs.RunLaws.{follow-going-before, reach-long, records-end, run-follows, run-ends, run-going}
@@ -44,7 +45,8 @@ module _ (most : ℕ) (trace old : List ℕ) (fits : runRefusal most trace (leng
 
   cut-reached : reached most (cutAt trace k) k ≡ going s
   cut-reached =
-      ap₂ (λ (u : Shape) (starts : List ℕ). reach u (fresh u (places most starts)) (restOf (cutAt trace k)) k) (shape-cut trace (k * 8)) (starts-cut trace (k * 8))
+      ap₂ (λ (u : Shape) (starts : List ℕ). reach u (fresh u (places most starts)) (restOf (cutAt trace k)) k)
+      (shape-cut trace (k * 8)) (starts-cut trace (k * 8))
       ∙ ap (λ (rest : List ℕ). reach (shape trace) (startOf most trace) rest k) (rest-cut trace (k * 8))
       ∙ reach-cut _ _ (restOf trace) (k * 8) k (omega arith)
       ∙ e
@@ -119,11 +121,13 @@ unfolding reportOf
 written-over u old (going s) = refl
 written-over u old (stopped y j) = refl
 
-pub written-by-length : (most : ℕ) (trace : List ℕ) (room : ℕ) → (w : List ℕ) × ((old : List ℕ) → length old ≡ room → ranOf most trace old .report ≡ overlay w old)
+pub written-by-length : (most : ℕ) (trace : List ℕ) (room : ℕ)
+    → (w : List ℕ) × ((old : List ℕ) → length old ≡ room → ranOf most trace old .report ≡ overlay w old)
 unfolding ranOf
 written-by-length most trace room =
     (writtenOf (shape trace) (runOf most trace room), λ old h. rw h (written-over (shape trace) old (runOf most trace room)))
 
 -- two reports that are both long enough see the same run
-pub run-by-bytes : (most : ℕ) (trace : List ℕ) (room other : ℕ) → runRefusal most trace room ≡ 0 → runRefusal most trace other ≡ 0 → runOf most trace room ≡ runOf most trace other
+pub run-by-bytes : (most : ℕ) (trace : List ℕ) (room other : ℕ) → runRefusal most trace room ≡ 0 → runRefusal most trace other ≡ 0
+    → runOf most trace room ≡ runOf most trace other
 run-by-bytes most trace room other h g = run-follows _ _ _ _ h ∙ sym (run-follows _ _ _ _ g)

@@ -20,7 +20,8 @@ use Rattle.model.specs.Claims.{At, Decides, Proposed, Within, Counted, m
 use Rattle.model.proofs.Places.{timedDecision, settled}
 use Rattle.model.proofs.RunLaws.{follow-same, run-going}
 use Rattle.model.proofs.SetupSays.{setup-sound, setup-starts, run-said}
-use Rattle.model.proofs.Consequences.{Point, decision-proposed, plain-bound, fast-bound, shown-exclusion, shown-agreement, shown-proposed, shown-undecided, shown-decided, shown-done}
+use Rattle.model.proofs.Consequences.{Point, decision-proposed, plain-bound, fast-bound, shown-exclusion, shown-agreement, shown-proposed}
+use Rattle.model.proofs.Consequences.{shown-undecided, shown-decided, shown-done}
 use Rattle.model.proofs.Counts.{run-counts}
 use Rattle.model.proofs.Later.{decided-stays}
 use Rattle.model.proofs.Shown.{run-stopped-after, accepted-goes, shows}
@@ -51,15 +52,18 @@ point {most} {trace} {k} at =
     }
 
 -- the start byte of row j
-start-byte : {most : ℕ} {trace : List ℕ} {k : ℕ} {s : State} → At most trace k s → (j : ℕ) → j < byte 3 trace → getD (places most (startBytes trace)) j 0 ≡ byte (8 + j) trace
+start-byte : {most : ℕ} {trace : List ℕ} {k : ℕ} {s : State} → At most trace k s → (j : ℕ) → j < byte 3 trace
+    → getD (places most (startBytes trace)) j 0 ≡ byte (8 + j) trace
 start-byte {most} {trace} at j h = place-at trace (setup-said most trace (at .setup) .head .whole) most j h
 
-pub proposed-there : {most : ℕ} {trace : List ℕ} {k : ℕ} {s : State} → At most trace k s → (j : ℕ) → T (settled (rowAt s j .local .place)) → Proposed trace s (rowAt s j .local .decided)
+pub proposed-there : {most : ℕ} {trace : List ℕ} {k : ℕ} {s : State} → At most trace k s → (j : ℕ) → T (settled (rowAt s j .local .place))
+    → Proposed trace s (rowAt s j .local .decided)
 proposed-there at j a =
     let p = decision-proposed (point at) j a in
     record { who = p .0; among = p .1; proposed = sym (start-byte at (p .0) (p .1)) ∙ p .2; moved = p .3 }
 
-pub stays-decided : {most : ℕ} {trace : List ℕ} {j k : ℕ} {s t : State} → At most trace j s → At most trace k t → j ≤ k → (i v : ℕ) → Decides s i v → Decides t i v
+pub stays-decided : {most : ℕ} {trace : List ℕ} {j k : ℕ} {s t : State} → At most trace j s → At most trace k t → j ≤ k → (i v : ℕ) → Decides s i v
+    → Decides t i v
 stays-decided {most} {trace} {j} {k} at at′ h i v a =
     let p = point at in
     decided-stays (shape trace) (p .sound) _ (p .starts) (restOf trace) i v j

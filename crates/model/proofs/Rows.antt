@@ -153,10 +153,22 @@ ok-begin (Routine.Lock how) u j x ok = record { place = λ h. tt; own = λ h. om
 ok-begin Routine.Plain u j x ok = record { place = λ h. tt; own = λ h. ok .0; small = ok .1; slot = refl; scan = omega arith; undecided = λ h. refl }
 ok-begin Routine.Fast u j x ok = record { place = λ h. tt; own = λ h. ok .0; small = ok .1; slot = refl; scan = omega arith; undecided = λ h. refl }
 
+blank-decision : (κ : Routine) (u : Shape) (j : ℕ) → u .count ≤ j → SmallOk κ u 0 → SlotOk κ u j 0 → RowOk κ u j blank
+blank-decision κ u j past small slot =
+    record {
+      place = λ h. absurd (omega arith);
+      own = λ h. absurd (omega arith);
+      small = small;
+      slot = slot;
+      scan = omega arith;
+      undecided = λ h. refl;
+    }
+
 pub ok-blank : (κ : Routine) (u : Shape) (j : ℕ) → Sound u → u .count ≤ j → RowOk κ u j blank
-ok-blank (Routine.Lock how) u j so past = record { place = λ h. tt; own = λ h. absurd (omega arith); small = tt; slot = so .sized; scan = omega arith; undecided = λ h. refl }
-ok-blank Routine.Plain u j so past = record { place = λ h. absurd (omega arith); own = λ h. absurd (omega arith); small = omega arith; slot = refl; scan = omega arith; undecided = λ h. refl }
-ok-blank Routine.Fast u j so past = record { place = λ h. absurd (omega arith); own = λ h. absurd (omega arith); small = omega arith; slot = refl; scan = omega arith; undecided = λ h. refl }
+ok-blank (Routine.Lock how) u j so past =
+    record { place = λ h. tt; own = λ h. absurd (omega arith); small = tt; slot = so .sized; scan = omega arith; undecided = λ h. refl }
+ok-blank Routine.Plain u j so past = blank-decision Routine.Plain u j past (omega arith) refl
+ok-blank Routine.Fast u j so past = blank-decision Routine.Fast u j past (omega arith) refl
 
 pub slot-small : (κ : Routine) (u : Shape) → Sound u → (j : ℕ) (r : Row) → RowOk κ u j r → r .local .slot .0 < mostSlots
 slot-small (Routine.Lock how) u so j r ok = omega (arith, ok .slot, so .slim)

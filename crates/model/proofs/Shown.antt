@@ -110,7 +110,8 @@ refused-stops most trace old {x} {j} e = by (runOf most trace (length old)) refl
 
 -- THE NUMBERS OF A ROW
 
-pub lines-at : (κ : Routine) (rows : List Row) (n j m : ℕ) → j < n → m < lineWidth → getD (lines κ rows n) (lineWidth * j + m) 0 ≡ getD (line κ (getD rows j blank)) m 0
+pub lines-at : (κ : Routine) (rows : List Row) (n j m : ℕ) → j < n → m < lineWidth
+    → getD (lines κ rows n) (lineWidth * j + m) 0 ≡ getD (line κ (getD rows j blank)) m 0
 unfolding lines
 lines-at κ rows zero j m h l = absurd (omega arith)
 lines-at κ rows (suc n) j m h l = by (decLt j n) (λ g. lines-at κ rows n j m g l)
@@ -142,7 +143,8 @@ pub record Shows (most : ℕ) (trace old : List ℕ) (j : ℕ) (r : Row) : Type 
   pub moves : shown most trace old j 2 ≡ r .moves
   pub lates : shown most trace old j 3 ≡ r .lates
 
-pub shows : (most : ℕ) (trace old : List ℕ) {s : State} → runOf most trace (length old) ≡ going s → (j : ℕ) → j < byte 3 trace → Shows most trace old j (rowAt s j)
+pub shows : (most : ℕ) (trace old : List ℕ) {s : State} → runOf most trace (length old) ≡ going s → (j : ℕ) → j < byte 3 trace
+    → Shows most trace old j (rowAt s j)
 unfolding line
 shows most trace old e j h =
     record {

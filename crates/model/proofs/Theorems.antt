@@ -87,10 +87,12 @@ module _ {most : ℕ} {trace : List ℕ} {k : ℕ} {s : State} (at : At most tra
   fast-records three j = rw (← counts j .moves, ← counts j .lates) (fast-moves three j .bounded)
 
 -- FROM POINT TO POINT: who has decided keeps its decision, so decisions at any two points of a run agree.
-pub decided-for-good : {most : ℕ} {trace : List ℕ} {j k : ℕ} {s t : State} → At most trace j s → At most trace k t → j ≤ k → (i v : ℕ) → Decides s i v → Decides t i v
+pub decided-for-good : {most : ℕ} {trace : List ℕ} {j k : ℕ} {s t : State} → At most trace j s → At most trace k t → j ≤ k → (i v : ℕ) → Decides s i v
+    → Decides t i v
 decided-for-good = stays-decided
 
-pub agreement-ever : {most : ℕ} {trace : List ℕ} {j k : ℕ} {s t : State} → At most trace j s → At most trace k t → (i m v w : ℕ) → Decides s i v → Decides t m w → v ≡ w
+pub agreement-ever : {most : ℕ} {trace : List ℕ} {j k : ℕ} {s t : State} → At most trace j s → At most trace k t → (i m v w : ℕ) → Decides s i v
+    → Decides t m w → v ≡ w
 agreement-ever {most} {trace} {j} {k} {s} {t} at at′ i m v w a b = by (decLt j k)
   where
     by : Dec (j < k) → v ≡ w
