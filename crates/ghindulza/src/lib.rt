@@ -24,7 +24,7 @@ ghost use Rattle.ghindulza.specs.Surface.{setupOut, stepOut, stepOf, ans
 // `at`: the count of accepted steps, or the record of the refusal.
 #[no_mangle]
 pub extern "C" fn ghindulza_run(trace: &[u8], report: &mut [u32], at: &mut u32) -> u32
-    ensures { λ r. ⌜ record { outcome = record { number = r; at = now (at .exit) }; report = now (report .exit) } ≡ ranOf (now (trace .entry)) (now (report .entry)) ⌝ }
+    ensures { λ r. ⌜ record { outcome = record { number = r; at = now (at .exit) }; report = now (report .exit) } ≡ ranOf mostProcesses (now (trace .entry)) (now (report .entry)) ⌝ }
 {
     let outcome = runs::run(trace, report);
     *at = outcome.at;
