@@ -7,6 +7,7 @@ use mathlib.Core.Bool.{Bool, true, false, cond, _&&_}
 use mathlib.Core.List.{List}
 use native.Mathlib.Omega.{arith}
 use borrow.Author.Tests.{eq-eqb, ne-eqb}
+use Rattle.terms.specs.Limits.{mostProcesses}
 use Rattle.terms.specs.Numbers.{processOf, indexOf}
 use Rattle.steps.specs.declared.Step.{Step}
 use Rattle.setups.specs.Setup.{setupFields}
@@ -133,7 +134,7 @@ reach-counts u so xs st rest k e j =
 
 -- after an accepted run
 pub run-counts : (trace : List ℕ) (room : ℕ) {s : State} → Bytes trace → runOf trace room ≡ going s
-    → (j : ℕ) → Counted (shapeOf (setupFields trace)) (startOf trace) (restOf trace) (records (restOf trace)) j (rowAt s j)
+    → (j : ℕ) → Counted (shapeOf (setupFields mostProcesses trace)) (startOf trace) (restOf trace) (records (restOf trace)) j (rowAt s j)
 run-counts trace room bytes e =
     let both = run-going trace room e in
     let setup = run-said trace room (both .0) .setup in

@@ -10,6 +10,7 @@ use lib.Dec.{ltb, lit<}
 use lib.ListN.{length, take, drop, length-take}
 use lib.Seq.{getD-take, take-take, take-nil, drop-nil}
 use borrow.Author.Tests.{lt-ltb, le-ltb, ltb-true, ltb-false}
+use Rattle.terms.specs.Limits.{mostProcesses}
 use Rattle.terms.specs.Refusal.{_then_}
 use Rattle.records.specs.Record.{byte}
 use Rattle.setups.specs.Setup.{setupRefusal, setupFields, startBytes}
@@ -77,7 +78,7 @@ module _ (trace : List ℕ) (m : ℕ) where
       let split : 8 + n + m ≡ 8 + (n + m) = omega arith in
       rw (at 3 (lit< tt), split, drop-take 8 (n + m) trace, take-take n (n + m) (drop 8 trace) (omega arith))
 
-  pub setup-fields-cut : setupFields front ≡ setupFields trace
+  pub setup-fields-cut : setupFields mostProcesses front ≡ setupFields mostProcesses trace
   setup-fields-cut = rw (starts-cut, at 2 (lit< tt), at 3 (lit< tt), at 4 (lit< tt), at 6 (lit< tt), at 7 (lit< tt))
 
   pub setup-cut : (most : ℕ) → setupRefusal most front ≡ setupRefusal most trace

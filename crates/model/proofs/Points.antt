@@ -34,7 +34,7 @@ pub record CutThere (trace old : List ℕ) (k : ℕ) (s : State) : Type 0 where
   pub whole : reached trace k ≡ going s
   pub cut : runOf (cutAt trace k) (length old) ≡ going s
   pub outcome : ranOf (cutAt trace k) old .outcome ≡ record { number = 0; at = k }
-  pub report : ranOf (cutAt trace k) old .report ≡ overlay (lines (routine (shapeOf (setupFields trace))) (s .rows) (byte 3 trace)) old
+  pub report : ranOf (cutAt trace k) old .report ≡ overlay (lines (routine (shapeOf (setupFields mostProcesses trace))) (s .rows) (byte 3 trace)) old
 
 -- A trace cut after any accepted record is a trace, whatever comes behind: also where a later record is refused.
 module _ (trace old : List ℕ) (fits : runRefusal trace (length old) ≡ 0) (k : ℕ) {s : State} (e : reached trace k ≡ going s) where
@@ -125,7 +125,7 @@ written-over u old (stopped y j) = refl
 pub written-by-length : (trace : List ℕ) (room : ℕ) → (w : List ℕ) × ((old : List ℕ) → length old ≡ room → ranOf trace old .report ≡ overlay w old)
 unfolding ranOf
 written-by-length trace room =
-    let u = shapeOf (setupFields trace) in
+    let u = shapeOf (setupFields mostProcesses trace) in
     (writtenOf u (runOf trace room), λ old h. rw h (written-over u old (runOf trace room)))
 
 -- two reports that are both long enough see the same run

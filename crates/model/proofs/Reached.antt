@@ -44,7 +44,7 @@ abbrev pub point : {trace : List ℕ} {k : ℕ} {s : State} → At trace k s →
 point {trace} {k} at =
     record {
       sound = setup-sound trace (at .setup) (at .bytes);
-      bytes = setupFields trace .starts;
+      bytes = setupFields mostProcesses trace .starts;
       starts = setup-starts trace (at .setup);
       rest = restOf trace;
       k = k;
@@ -52,7 +52,7 @@ point {trace} {k} at =
     }
 
 -- the start byte of row j
-start-byte : {trace : List ℕ} {k : ℕ} {s : State} → At trace k s → (j : ℕ) → j < byte 3 trace → getD (setupFields trace .starts) j 0 ≡ byte (8 + j) trace
+start-byte : {trace : List ℕ} {k : ℕ} {s : State} → At trace k s → (j : ℕ) → j < byte 3 trace → getD (setupFields mostProcesses trace .starts) j 0 ≡ byte (8 + j) trace
 start-byte {trace} at j h = place-at trace (setup-said mostProcesses trace (at .setup) .head .whole) mostProcesses j h
 
 pub proposed-there : {trace : List ℕ} {k : ℕ} {s : State} → At trace k s → (j : ℕ) → T (settled (rowAt s j .local .place)) → Proposed trace s (rowAt s j .local .decided)

@@ -73,7 +73,7 @@ ran-stopped u rest old e = sym (ap (ranBy u rest old) e)
 module _ (trace old : List ℕ) where
   refused-first : (runRefusal trace (length old) ≡ 0 → ⊥) → refusedRun (runRefusal trace (length old)) 0 old ≡ ranOf trace old
   unfolding ranOf
-  refused-first h = ran-stopped (shapeOf (setupFields trace)) (restOf trace) old (run-refused trace (length old) h)
+  refused-first h = ran-stopped (shapeOf (setupFields mostProcesses trace)) (restOf trace) old (run-refused trace (length old) h)
 
   refused-as : (x : ℕ) → runRefusal trace (length old) ≡ suc x → refusedRun (suc x) 0 old ≡ ranOf trace old
   refused-as x e = ap (λ (y : ℕ). refusedRun y 0 old) (sym e) ∙ refused-first (λ z. absurd (omega arith))
@@ -98,8 +98,8 @@ module _ (trace old : List ℕ) where
       ran-long h = refused-as 7 (rw (set, le-ltb (length old) (lineWidth * byte 3 trace) wide, lt-ltb (8 * mostSteps) (length (restOf trace)) h))
 
       -- and then the records
-      pub ran-on : length (restOf trace) ≤ 8 * mostSteps → ranBy (shapeOf (setupFields trace)) (restOf trace) old (reached trace (records (restOf trace))) ≡ ranOf trace old
+      pub ran-on : length (restOf trace) ≤ 8 * mostSteps → ranBy (shapeOf (setupFields mostProcesses trace)) (restOf trace) old (reached trace (records (restOf trace))) ≡ ranOf trace old
       unfolding runRefusal ranOf
       ran-on h =
           let accepted : runRefusal trace (length old) ≡ 0 = rw (set, le-ltb (length old) (lineWidth * byte 3 trace) wide, le-ltb (8 * mostSteps) (length (restOf trace)) h) in
-          ap (ranBy (shapeOf (setupFields trace)) (restOf trace) old) (sym (run-reaches trace (length old) accepted))
+          ap (ranBy (shapeOf (setupFields mostProcesses trace)) (restOf trace) old) (sym (run-reaches trace (length old) accepted))

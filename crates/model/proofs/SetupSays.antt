@@ -31,7 +31,7 @@ module _ (trace : List ℕ) (h : setupRefusal mostProcesses trace ≡ 0) where
   said : AcceptedSetup mostProcesses trace
   said = setup-said mostProcesses trace h
 
-  pub setup-sound : Bytes trace → Sound (shapeOf (setupFields trace))
+  pub setup-sound : Bytes trace → Sound (shapeOf (setupFields mostProcesses trace))
   setup-sound bytes =
       let l = said .head .limits in
       record {
@@ -42,7 +42,7 @@ module _ (trace : List ℕ) (h : setupRefusal mostProcesses trace ≡ 0) where
         bounded = omega (arith, bytes 6, bytes 7);
       }
 
-  pub setup-starts : Starts (shapeOf (setupFields trace)) (setupFields trace .starts)
+  pub setup-starts : Starts (shapeOf (setupFields mostProcesses trace)) (setupFields mostProcesses trace .starts)
   setup-starts =
       let whole = said .head .whole in
       record {

@@ -10,6 +10,7 @@ use native.Mathlib.Decide.{decLt}
 use lib.Dec.{T, eqb}
 use lib.ListN.{length, getD, drop, List·getD-append}
 use lib.Seq.{getD-append-add}
+use Rattle.terms.specs.Limits.{mostProcesses}
 use Rattle.terms.specs.Refusal.{ifAccepted}
 use Rattle.records.specs.Record.{byte}
 use Rattle.setups.specs.Setup.{setupFields}
@@ -102,10 +103,10 @@ lines-at κ rows (suc n) j m h l = by (decLt j n) (λ g. lines-at κ rows n j m 
         rw (same, end) (getD-append-add (lines κ rows n) (line κ (getD rows n blank)) m 0)
 
 shown-at : (trace old : List ℕ) {s : State} → runOf trace (length old) ≡ going s → (j m : ℕ) → j < byte 3 trace → m < lineWidth
-    → shown trace old j m ≡ getD (line (routine (shapeOf (setupFields trace))) (rowAt s j)) m 0
+    → shown trace old j m ≡ getD (line (routine (shapeOf (setupFields mostProcesses trace))) (rowAt s j)) m 0
 unfolding ranOf reportOf
 shown-at trace old {s} e j m h l =
-    let κ : Routine = routine (shapeOf (setupFields trace)) in
+    let κ : Routine = routine (shapeOf (setupFields mostProcesses trace)) in
     rw e
     (List·getD-append (lines κ (s .rows) (byte 3 trace)) (drop (length (lines κ (s .rows) (byte 3 trace))) old) 0 (lineWidth * j + m)
     (omega (arith, length-lines κ (s .rows) (byte 3 trace)))
@@ -114,7 +115,7 @@ shown-at trace old {s} e j m h l =
 -- what the line of row j shows
 pub record Shows (trace old : List ℕ) (j : ℕ) (r : Row) : Type 0 where
   pub place : shown trace old j 0 ≡ shownPlace r
-  pub figure : shown trace old j 1 ≡ figureOf (routine (shapeOf (setupFields trace))) r
+  pub figure : shown trace old j 1 ≡ figureOf (routine (shapeOf (setupFields mostProcesses trace))) r
   pub moves : shown trace old j 2 ≡ r .moves
   pub lates : shown trace old j 3 ≡ r .lates
 

@@ -27,7 +27,7 @@ pub record At (trace : List ℕ) (k : ℕ) (s : State) : Type 0 where
   pub led : reached trace k ≡ going s
 
 abbrev pub shape : List ℕ → Shape
-shape trace = shapeOf (setupFields trace)
+shape trace = shapeOf (setupFields mostProcesses trace)
 
 -- row j is at its section, place 5, on slot c, crashed or not; 01's occupants are those of them that have not crashed
 abbrev pub Inside : State → ℕ → ℕ → Type 0

@@ -3,6 +3,7 @@ use Prim.Native.Nat.{ℕ, zero, suc}
 use mathlib.Core.Bool.{cond}
 use mathlib.Core.List.{List, [], _∷_, _++_}
 use lib.ListN.{length, getD}
+use Rattle.terms.specs.Limits.{mostProcesses}
 use Rattle.terms.specs.Overlay.{overlay}
 use Rattle.setups.specs.Setup.{setupFields}
 use Rattle.model.specs.declared.Place.{Place}
@@ -62,5 +63,5 @@ unfoldable pub ranOf : List ℕ → List ℕ → Ran
 ranOf trace old =
     record {
       outcome = outcomeOf (records (restOf trace)) (runOf trace (length old));
-      report = reportOf (shapeOf (setupFields trace)) old (runOf trace (length old));
+      report = reportOf (shapeOf (setupFields mostProcesses trace)) old (runOf trace (length old));
     }

@@ -131,10 +131,10 @@ runRefusal trace room =
 
 -- the state that a trace's setup begins with, and what its first k records lead to
 abbrev pub startOf : List ℕ → State
-startOf trace = fresh (shapeOf (setupFields trace)) (setupFields trace .starts)
+startOf trace = fresh (shapeOf (setupFields mostProcesses trace)) (setupFields mostProcesses trace .starts)
 
 abbrev pub reached : List ℕ → ℕ → Progress
-reached trace k = reach (shapeOf (setupFields trace)) (startOf trace) (restOf trace) k
+reached trace k = reach (shapeOf (setupFields mostProcesses trace)) (startOf trace) (restOf trace) k
 
 unfoldable pub runOf : List ℕ → ℕ → Progress
 runOf trace room = ifAccepted (runRefusal trace room) (reached trace (records (restOf trace))) (stopped (runRefusal trace room) 0)

@@ -9,7 +9,7 @@ use borrow.Author.Tests.{ltb-false, leb-false, eqb-true, le-ltb, lt-leb, eq-eqb,
 use lib.ListN.{length, getD, drop, replicate, length-append, length-take, length-drop, length-replicate, List·getD-append}
 use lib.Seq.{getD-take, getD-drop, getD-append-add}
 use lib.Dec.{ltb}
-use Rattle.terms.specs.Limits.{mostProcesses, mostSlots}
+use Rattle.terms.specs.Limits.{mostSlots}
 use Rattle.terms.specs.Little.{AllBytes}
 use Rattle.terms.specs.Refusal.{any}
 use Rattle.terms.proofs.RefusalLaws.{if-refused, then-both, passed, refuse-false, both-false, not-outside, inside}
@@ -144,30 +144,30 @@ module _ (most : ℕ) (s : List ℕ) where
   said-setup a = simp (said-head (a .head), a .good)
 
 -- what is read and what is left, by the refusal
-module _ (s : List ℕ) where
-  pub setup-accepted : setupRefusal mostProcesses s ≡ 0 → record { refusal = 0; setup = setupFields s } ≡ setupRead s
+module _ (most : ℕ) (s : List ℕ) where
+  pub setup-accepted : setupRefusal most s ≡ 0 → record { refusal = 0; setup = setupFields most s } ≡ setupRead most s
   unfolding setupRead
   setup-accepted e = simp e
 
-  pub setup-refused : (k : ℕ) → setupRefusal mostProcesses s ≡ k → (k ≡ 0 → ⊥) → record { refusal = k; setup = noSetup } ≡ setupRead s
+  pub setup-refused : (k : ℕ) → setupRefusal most s ≡ k → (k ≡ 0 → ⊥) → record { refusal = k; setup = noSetup most } ≡ setupRead most s
   unfolding setupRead
   setup-refused k e h = simp (e, if-refused k h)
 
-  pub rest-accepted : setupRefusal mostProcesses s ≡ 0 → (setupRest s ≡ drop (8 + byte 3 s) s) × (restStart s ≡ 8 + byte 3 s)
+  pub rest-accepted : setupRefusal most s ≡ 0 → (setupRest most s ≡ drop (8 + byte 3 s) s) × (restStart most s ≡ 8 + byte 3 s)
   unfolding setupRest restStart
   rest-accepted e = (simp e, simp e)
 
-  pub rest-refused : (k : ℕ) → setupRefusal mostProcesses s ≡ k → (k ≡ 0 → ⊥) → (setupRest s ≡ []) × (restStart s ≡ 0)
+  pub rest-refused : (k : ℕ) → setupRefusal most s ≡ k → (k ≡ 0 → ⊥) → (setupRest most s ≡ []) × (restStart most s ≡ 0)
   unfolding setupRest restStart
   rest-refused k e h = (simp (e, if-refused k h), simp (e, if-refused k h))
 
   -- of what a reader answered: its refusal is the table's, and where that is 0 its fields are the setup's
-  module _ (r : SetupRead) (e : r ≡ setupRead s) where
-    pub setup-refusal-read : setupRefusal mostProcesses s ≡ r .refusal
+  module _ (r : SetupRead) (e : r ≡ setupRead most s) where
+    pub setup-refusal-read : setupRefusal most s ≡ r .refusal
     unfolding setupRead
     setup-refusal-read = sym (ap (λ (x : SetupRead). x .refusal) e)
 
-    pub setup-fields-read : r .refusal ≡ 0 → r .setup ≡ setupFields s
+    pub setup-fields-read : r .refusal ≡ 0 → r .setup ≡ setupFields most s
     setup-fields-read h = ap (λ (x : SetupRead). x .setup) (e ∙ sym (setup-accepted (setup-refusal-read ∙ h)))
 
 -- START BYTES
@@ -219,8 +219,8 @@ module _ (most : ℕ) (s : List ℕ) (a : AcceptedSetup most s) (j : ℕ) (below
       (none-bad (badStart (byte 2 s) (byte 4 s)) (startBytes s) (a .good) j (omega (arith, start-count s (a .head .whole))))
 
 -- the setup's fields are of their widths
-pub delta-small : (s : List ℕ) → AllBytes s → setupFields s .delta ≤ 65_535
-delta-small s h = omega (arith, byte-small s h 6, byte-small s h 7)
+pub delta-small : (most : ℕ) (s : List ℕ) → AllBytes s → setupFields most s .delta ≤ 65_535
+delta-small most s h = omega (arith, byte-small s h 6, byte-small s h 7)
 
 -- WRITING
 

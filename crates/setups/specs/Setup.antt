@@ -4,7 +4,7 @@ use mathlib.Core.List.{List, [], _∷_, _++_}
 use Prim.Native.Nat.{ℕ, _+_}
 use lib.ListN.{length, take, drop, replicate}
 use lib.Dec.{leb, ltb, eqb}
-use Rattle.terms.specs.Limits.{mostProcesses, mostSlots}
+use Rattle.terms.specs.Limits.{mostSlots}
 use Rattle.terms.specs.Refusal.{refuse, _then_, outside, any, ifAccepted}
 use Rattle.terms.specs.Little.{littleOf, littleBytes}
 use Rattle.terms.specs.Overlay.{overlay}
@@ -61,40 +61,36 @@ abbrev pub places : ℕ → List ℕ → List ℕ
 places most starts = overlay starts (replicate most 0)
 
 -- what is answered of the start bytes alone: 6, or the places
-abbrev pub startsOf : ℕ → ℕ → List ℕ → Starts
-startsOf kind size starts =
+abbrev pub startsOf : ℕ → ℕ → ℕ → List ℕ → Starts
+startsOf most kind size starts =
     record {
       refusal = startRefusal kind size starts;
-      places = ifAccepted (startRefusal kind size starts) (places mostProcesses starts) (replicate mostProcesses 0);
+      places = ifAccepted (startRefusal kind size starts) (places most starts) (replicate most 0);
     }
 
 -- where each field stands
-abbrev pub setupFields : List ℕ → Setup
-setupFields s =
+abbrev pub setupFields : ℕ → List ℕ → Setup
+setupFields most s =
     record {
       kind = byte 2 s;
       processes = byte 3 s;
       size = byte 4 s;
       delta = littleOf (byte 6 s ∷ byte 7 s ∷ []);
-      starts = places mostProcesses (startBytes s);
+      starts = places most (startBytes s);
     }
 
-abbrev pub noSetup : Setup
-noSetup = record { kind = 0; processes = 0; size = 0; delta = 0; starts = replicate mostProcesses 0 }
+abbrev pub noSetup : ℕ → Setup
+noSetup most = record { kind = 0; processes = 0; size = 0; delta = 0; starts = replicate most 0 }
 
-unfoldable pub setupRead : List ℕ → SetupRead
-setupRead s =
-    record {
-      refusal = setupRefusal mostProcesses s;
-      setup = ifAccepted (setupRefusal mostProcesses s) (setupFields s) noSetup;
-    }
+unfoldable pub setupRead : ℕ → List ℕ → SetupRead
+setupRead most s = record { refusal = setupRefusal most s; setup = ifAccepted (setupRefusal most s) (setupFields most s) (noSetup most) }
 
 -- where the rest begins: past the setup, on refusal at the beginning; and its bytes, none on refusal
-unfoldable pub restStart : List ℕ → ℕ
-restStart s = ifAccepted (setupRefusal mostProcesses s) (8 + byte 3 s) 0
+unfoldable pub restStart : ℕ → List ℕ → ℕ
+restStart most s = ifAccepted (setupRefusal most s) (8 + byte 3 s) 0
 
-unfoldable pub setupRest : List ℕ → List ℕ
-setupRest s = ifAccepted (setupRefusal mostProcesses s) (drop (8 + byte 3 s) s) []
+unfoldable pub setupRest : ℕ → List ℕ → List ℕ
+setupRest most s = ifAccepted (setupRefusal most s) (drop (8 + byte 3 s) s) []
 
 -- WRITING
 

@@ -88,13 +88,13 @@ fn any_bad_start(kind: u8, size: u8, s: &[u8]) -> bool
 }
 
 // 3, 4 and 5: what the reader and the writer ask alike.
-fn setup_limits(kind: u8, n: usize, size: u8, spare: u8) -> u32
-    ensures { λ r. ⌜ r ≡ setupLimits mostProcesses kind n size spare ⌝ }
+fn setup_limits(most: u32, kind: u8, n: usize, size: u8, spare: u8) -> u32
+    ensures { λ r. ⌜ r ≡ setupLimits most kind n size spare ⌝ }
 {
     if is_bad_kind(kind) {
         return 3;
     }
-    if is_outside(1, Trace::PROCESSES as usize, n) {
+    if is_outside(1, most as usize, n) {
         return 4;
     }
     if is_bad_size(kind, size, spare) {
@@ -106,8 +106,8 @@ fn setup_limits(kind: u8, n: usize, size: u8, spare: u8) -> u32
 // READING
 
 // 1 (8 bytes), 2, 3, 4, 5, 1 (8 + n): all that a setup is refused for but its start bytes.
-fn head_refusal(trace: &[u8]) -> u32
-    ensures { λ r. ⌜ r ≡ headRefusal mostProcesses (now (trace .entry)) ⌝ }
+fn head_refusal(most: u32, trace: &[u8]) -> u32
+    ensures { λ r. ⌜ r ≡ headRefusal most (now (trace .entry)) ⌝ }
 {
     if trace.len() < 8 {
         return 1;
@@ -119,7 +119,7 @@ fn head_refusal(trace: &[u8]) -> u32
         return 2;
     }
     let n = wide(trace[3]);
-    let no = setup_limits(trace[2], n, trace[4], trace[5]);
+    let no = setup_limits(most, trace[2], n, trace[4], trace[5]);
     if no != 0 {
         return no;
     }
@@ -137,7 +137,7 @@ struct Starts {
 
 fn starts_of(kind: u8, size: u8, s: &[u8]) -> Starts
     requires { ⌜ length (now s) ≤ mostProcesses ⌝ }
-    ensures { λ r. ⌜ r ≡ startsOf kind size (now (s .entry)) ⌝ }
+    ensures { λ r. ⌜ r ≡ startsOf mostProcesses kind size (now (s .entry)) ⌝ }
 {
     if any_bad_start(kind, size, s) {
         return Starts {
@@ -152,7 +152,7 @@ fn starts_of(kind: u8, size: u8, s: &[u8]) -> Starts
 
 impl SetupRead {
     fn refused(no: u32) -> Self
-        ensures { λ r. ⌜ r ≡ record { refusal = no; setup = noSetup } ⌝ }
+        ensures { λ r. ⌜ r ≡ record { refusal = no; setup = noSetup mostProcesses } ⌝ }
     {
         SetupRead {
             refusal: no,
@@ -169,9 +169,9 @@ impl SetupRead {
 
 // The setup that a trace begins with.
 pub fn read_setup(trace: &[u8]) -> SetupRead
-    ensures { λ r. ⌜ r ≡ setupRead (now (trace .entry)) ⌝ }
+    ensures { λ r. ⌜ r ≡ setupRead mostProcesses (now (trace .entry)) ⌝ }
 {
-    let no = head_refusal(trace);
+    let no = head_refusal(Trace::PROCESSES, trace);
     if no != 0 {
         return SetupRead::refused(no);
     }
@@ -198,8 +198,8 @@ pub fn read_setup(trace: &[u8]) -> SetupRead
 
 // The rest of a trace after its setup; on refusal the empty part at the trace's beginning.
 pub fn setup_rest(trace: &[u8]) -> &[u8]
-    ensures { λ r. ⌜ now r ≡ setupRest (now (trace .entry)) ⌝ }
-    ensures { λ r. ⌜ ptr r ≡ (ptr (trace .entry) .0, restStart (now (trace .entry)) + ptr (trace .entry) .1) ⌝ }
+    ensures { λ r. ⌜ now r ≡ setupRest mostProcesses (now (trace .entry)) ⌝ }
+    ensures { λ r. ⌜ ptr r ≡ (ptr (trace .entry) .0, restStart mostProcesses (now (trace .entry)) + ptr (trace .entry) .1) ⌝ }
 {
     let read = read_setup(trace);
     if read.refusal != 0 {
@@ -212,11 +212,11 @@ pub fn setup_rest(trace: &[u8]) -> &[u8]
 // WRITING
 
 // 3, 4, 5, 6, 19 of a setup that is to be written to a buffer of `room` bytes.
-fn setup_write_refusal(kind: u8, size: u8, starts: &[u8], room: usize) -> u32
-    ensures { λ r. ⌜ r ≡ setupWriteRefusal mostProcesses kind size (now (starts .entry)) room ⌝ }
+fn setup_write_refusal(most: u32, kind: u8, size: u8, starts: &[u8], room: usize) -> u32
+    ensures { λ r. ⌜ r ≡ setupWriteRefusal most kind size (now (starts .entry)) room ⌝ }
 {
     let n = starts.len();
-    let no = setup_limits(kind, n, size, 0);
+    let no = setup_limits(most, kind, n, size, 0);
     if no != 0 {
         return no;
     }
@@ -233,7 +233,7 @@ fn setup_write_refusal(kind: u8, size: u8, starts: &[u8], room: usize) -> u32
 pub fn write_setup(kind: u8, size: u8, delta: u16, starts: &[u8], buffer: &mut [u8]) -> Written
     ensures { λ r. ⌜ Wrote (setupWriteRefusal mostProcesses kind size (now (starts .entry)) (length (now (buffer .entry)))) (setupBytes kind size delta (now (starts .entry))) (now (buffer .entry)) r (now (buffer .exit)) ⌝ }
 {
-    let no = setup_write_refusal(kind, size, starts, buffer.len());
+    let no = setup_write_refusal(Trace::PROCESSES, kind, size, starts, buffer.len());
     if no != 0 {
         return Written {
             refusal: no,

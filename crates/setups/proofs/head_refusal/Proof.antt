@@ -7,7 +7,6 @@ use borrow.Author.Tests.{lt-ltb, le-ltb, eq-eqb, ne-eqb}
 use lib.Dec.{ltb}
 use lib.ListN.{length}
 use denote.Ref.{now}
-use Rattle.terms.specs.Limits.{mostProcesses}
 use Rattle.terms.specs.Refusal.{refuse, _then_}
 use Rattle.terms.proofs.RefusalLaws.{then-stop}
 use Rattle.records.specs.Record.{byte, marked}
@@ -21,7 +20,7 @@ at-mark c = c .before .before .before .before .before .before
 
 so-far : (c : tie.After-setup-limits)
     → let s = now (at-mark c .before .before .before .before .before .before .args .trace) in
-    (refuse 1 (ltb (length s) 8) then refuse 2 (not (marked setupMark s)) then setupLimits mostProcesses (byte 2 s) (byte 3 s) (byte 4 s) (byte 5 s)) ≡ c .setup-limits .result
+    (refuse 1 (ltb (length s) 8) then refuse 2 (not (marked setupMark s)) then setupLimits (at-mark c .before .before .before .before .before .before .args .most) (byte 2 s) (byte 3 s) (byte 4 s) (byte 5 s)) ≡ c .setup-limits .result
 so-far c =
     let m = at-mark c in
     simp (

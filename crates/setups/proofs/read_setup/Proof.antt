@@ -30,11 +30,11 @@ module _ (c : tie.After-starts-of) where
   abbrev trace : List ℕ
   trace = now (at-head c .before .before .before .args .trace)
 
-  called : c .starts-of .result ≡ startsOf (byte 2 trace) (byte 4 trace) (startBytes trace)
+  called : c .starts-of .result ≡ startsOf mostProcesses (byte 2 trace) (byte 4 trace) (startBytes trace)
   called = c .starts-of .ensures ∙ simp (c .before .before .wide .ensures, add-sub-cancel-left)
 
 returns : tie.Need-returns
-returns c = c .refused .ensures ∙ read-head (now (c .before .before .before .before .args .trace)) _ (c .before .before .head-refusal .ensures) (c .before .if1 .taken)
+returns c = c .refused .ensures ∙ read-head _ (now (c .before .before .before .before .args .trace)) _ (c .before .before .head-refusal .ensures) (c .before .if1 .taken)
 
 starts-of-requires : tie.Need-starts-of-requires
 starts-of-requires c κs =
@@ -44,13 +44,13 @@ starts-of-requires c κs =
 returns-2 : tie.Need-returns-2
 returns-2 c =
     let d = c .before .before in
-    c .refused2 .ensures ∙ read-starts _ _ (accepted (at-head d)) (called d) (c .before .if2 .taken)
+    c .refused2 .ensures ∙ read-starts _ _ _ (accepted (at-head d)) (called d) (c .before .if2 .taken)
 
 returns-3 : tie.Need-returns-3
 returns-3 c =
     let e = c .before .before .before .before .before in
     let d = e .before in
-    simp (c .u16-of .ensures) (read-whole _ _ (accepted (at-head d)) (called d) (e .if2 .left))
+    simp (c .u16-of .ensures) (read-whole _ _ _ (accepted (at-head d)) (called d) (e .if2 .left))
 
 pub read-setup-spec : {M : Type 1} → statement M
 read-setup-spec =

@@ -4,7 +4,6 @@ use borrow.Author.Needs.{needs}
 use borrow.Author.Tests.{lt-ltb, le-ltb}
 use lib.ListN.{length}
 use denote.Ref.{now}
-use Rattle.terms.specs.Limits.{mostProcesses}
 use Rattle.terms.specs.Refusal.{refuse, _then_}
 use Rattle.terms.proofs.RefusalLaws.{then-stop}
 use Rattle.setups.specs.Setup.{setupLimits, startRefusal, setupWriteRefusal}
@@ -14,7 +13,7 @@ use Rattle.setups.proofs.setup_write_refusal.Tie as tie
 -- up to the start bytes the table is decided by what `any_bad_start` found
 so-far : (c : tie.After-any-bad-start)
     → let a = c .before .before .before .before .args in
-    (setupLimits mostProcesses (a .kind) (length (now (a .starts))) (a .size) 0 then startRefusal (a .kind) (a .size) (now (a .starts))) ≡ refuse 6 (c .any-bad-start .result)
+    (setupLimits (a .most) (a .kind) (length (now (a .starts))) (a .size) 0 then startRefusal (a .kind) (a .size) (now (a .starts))) ≡ refuse 6 (c .any-bad-start .result)
 so-far c =
     let l = c .before in
     simp (
