@@ -7,7 +7,7 @@ ghost use Rattle.model.specs.Routine.{routineOf};
 ghost use Rattle.model.specs.Sizes.{lineWidth};
 ghost use Rattle.model.specs.Report.{shownPlace, figureOf, line};
 ghost use Rattle.rows.specs.Rows.{rowIn, Inside};
-use model::Kind;
+use kinds::Kind;
 
 fn shown_place(j: usize, rows: &[u32; 288]) -> u32
     requires { ⌜ Inside j ⌝ }

@@ -12,7 +12,7 @@ use Rattle.terms.specs.Limits.{mostProcesses}
 use Rattle.terms.specs.Numbers.{slotOf}
 use Rattle.bank.specs.Registers.{freshBank, afterRead, afterWrite, valueAt}
 use Rattle.records.specs.Record.{byte}
-use Rattle.setups.specs.Setup.{badKind, badSize, badStart, setupRefusal}
+use Rattle.setups.specs.Setup.{badSize, badStart, setupRefusal}
 use Rattle.steps.specs.Step.{stepRefusal}
 use Rattle.model.specs.declared.State.{State}
 use Rattle.model.specs.Bounds.{Bytes}
@@ -81,7 +81,7 @@ pub record Witnessed : Type 0 where
   pub report-bound : (shown (trace 15) (old 8) 0 2 ≡ 7) × (shown (trace 15) (old 8) 0 3 ≡ 1) × (shown (trace 15) (old 8) 0 0 ≡ 8)
 
 pub witnesses : Witnessed
-unfolding freshBank afterRead afterWrite badKind badSize badStart setupRefusal stepRefusal startRows fresh moveAt stop after judge recordRefusal advance reach records runRefusal runOf line lines reportOf outcomeOf ranOf howMany
+unfolding freshBank afterRead afterWrite badSize badStart setupRefusal stepRefusal startRows fresh moveAt stop after judge recordRefusal advance reach records runRefusal runOf line lines reportOf outcomeOf ranOf howMany
 witnesses =
     record {
       two-inside = (at 8 11 tt refl refl, ((refl, refl), refl), ((refl, refl), refl));

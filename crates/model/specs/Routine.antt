@@ -6,7 +6,7 @@ use lib.Dec.{eqb, leb}
 use Rattle.terms.specs.Limits.{unlimited}
 use Rattle.terms.specs.Numbers.{slotOf}
 use Rattle.model.specs.declared.Place.{Place}
-use Rattle.model.specs.declared.Kind.{Kind}
+use Rattle.kinds.specs.declared.Kind.{Kind}
 use Rattle.model.specs.declared.Shape.{Shape}
 use Rattle.model.specs.declared.Local.{Local}
 use Rattle.model.specs.declared.Row.{Row}

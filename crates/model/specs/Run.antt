@@ -8,6 +8,7 @@ use Rattle.terms.specs.declared.ProcessNumber.{ProcessNumber}
 use Rattle.terms.specs.Limits.{mostProcesses, mostSteps}
 use Rattle.terms.specs.Numbers.{indexOf}
 use Rattle.terms.specs.Refusal.{refuse, _then_, ifAccepted}
+use Rattle.kinds.specs.Kinds.{kindOf}
 use Rattle.bank.specs.Registers.{freshBank}
 use Rattle.setups.specs.declared.Setup.{Setup}
 use Rattle.steps.specs.declared.Step.{Step}
@@ -16,7 +17,6 @@ use Rattle.setups.specs.Setup.{setupRefusal, setupFields}
 use Rattle.steps.specs.Step.{stepRefusal, stepFields}
 use Rattle.model.specs.Sizes.{lineWidth, flagCount}
 use Rattle.model.specs.declared.Place.{Place}
-use Rattle.model.specs.declared.Kind.{Kind}
 use Rattle.model.specs.declared.Shape.{Shape}
 use Rattle.model.specs.declared.Row.{Row}
 use Rattle.model.specs.declared.Ask.{Ask}
@@ -112,9 +112,6 @@ unfoldable pub records : List ℕ → ℕ
 records rest = (length rest + 7) / 8
 
 -- A RUN
-
-abbrev pub kindOf : ℕ → Kind
-kindOf k = cond (eqb k 1) Kind.Lock (cond (eqb k 2) Kind.Plain Kind.Fast)
 
 abbrev pub shapeOf : Setup → Shape
 shapeOf f = record { kind = kindOf (f .kind); count = f .processes; size = f .size; delta = f .delta }

@@ -1,7 +1,7 @@
 -- The slots that a lock's process takes: the same for every kind.
 -- Assumes nothing.
 use mathlib.Core.Path.{_≡_, refl}
-use Rattle.model.specs.declared.Kind.{Kind}
+use Rattle.kinds.specs.declared.Kind.{Kind}
 use Rattle.model.specs.declared.Shape.{Shape}
 use Rattle.model.specs.declared.Local.{Local}
 use Rattle.model.specs.Routine.{around, slotsOf, slots}

@@ -3,7 +3,7 @@ ghost use mathlib.Core.Path.{_≡_};
 ghost use Rattle.model.specs.Routine.{routineOf, counted};
 ghost use Rattle.model.specs.Report.{shownOf};
 ghost use Rattle.rows.specs.Rows.{placeOf, rowIn, Inside, Changed, turn, owning, begun, Uncounted};
-use model::Kind;
+use kinds::Kind;
 use model::Place;
 use terms::SlotNumber;
 

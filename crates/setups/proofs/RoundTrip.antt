@@ -9,16 +9,17 @@ use native.Mathlib.Omega.{arith}
 use lib.ListN.{length, take, drop, replicate, length-append}
 use lib.Seq.{take-append-seam, drop-append-seam, take-add, take-at, drop-drop}
 use Rattle.terms.specs.Little.{littleOf, AllBytes}
-use Rattle.terms.specs.Refusal.{any}
+use Rattle.terms.specs.Refusal.{anyFrom}
 use Rattle.terms.proofs.LittleLaws.{little-of-bytes, little-bytes-of}
 use Rattle.terms.proofs.Parts.{elements, take-elements}
+use Rattle.kinds.specs.Kinds.{kindOf}
 use Rattle.records.specs.declared.Written.{Written}
 use Rattle.records.specs.Record.{byte, Wrote}
 use Rattle.records.proofs.RecordLaws.{byte-small, wrote-whole, wrote-said}
 use Rattle.setups.specs.declared.Setup.{Setup}
 use Rattle.setups.specs.declared.SetupRead.{SetupRead}
 use Rattle.setups.specs.Setup.{badStart, setupRefusal, setupRead, setupRest, restStart, setupHead, setupBytes, setupWriteRefusal, setupFields, startBytes, places}
-use Rattle.setups.proofs.SetupLaws.{Limits, Head, AcceptedSetup, setup-said, said-setup, setup-accepted, rest-accepted, start-count, WritableSetup, setup-write-said, said-setup-write}
+use Rattle.setups.proofs.SetupLaws.{Limits, limits-size, Head, AcceptedSetup, setup-said, said-setup, setup-accepted, rest-accepted, start-count, WritableSetup, setup-write-said, said-setup-write}
 
 -- the setup that a writer is given
 abbrev pub given : ℕ → ℕ → ℕ → ℕ → List ℕ → Setup
@@ -36,7 +37,7 @@ module _ (most kind size delta : ℕ) (starts rest : List ℕ) where
   same : startBytes trace ≡ starts
   same = take-append-seam starts rest
 
-  module _ (limits : Limits most kind (length starts) size 0) (good : any (badStart kind size) starts ≡ false) where
+  module _ (limits : Limits most kind (length starts) size 0) (good : anyFrom 0 (badStart (kindOf kind) (length starts) size 0) starts ≡ false) where
     accepted : setupRefusal most trace ≡ 0
     accepted =
         let head : Head most trace = record {
@@ -85,7 +86,7 @@ module _ (most : ℕ) (s : List ℕ) (bytes : AllBytes s) (ok : setupRefusal mos
   head-again : setupHead (byte 2 s) (byte 3 s) (byte 4 s) delta ≡ elements 8 0 s
   head-again =
       let h = known .head in
-      cc (little-bytes-of (byte 6 s ∷ byte 7 s ∷ []) (byte-small s bytes 6, (byte-small s bytes 7, tt)))
+      cc (limits-size _ _ _ _ _ (h .limits) .2, little-bytes-of (byte 6 s ∷ byte 7 s ∷ []) (byte-small s bytes 6, (byte-small s bytes 7, tt)))
 
   bytes-again : setupBytes (byte 2 s) (byte 4 s) delta (startBytes s) ≡ take (8 + byte 3 s) s
   bytes-again =
@@ -107,21 +108,21 @@ module _ (most : ℕ) (s : List ℕ) (bytes : AllBytes s) (ok : setupRefusal mos
       (w : let t = setupRead most s .setup in
       let starts = take (t .processes) (t .starts) in
       Wrote (setupWriteRefusal most (t .kind) (t .size) starts (length before)) (setupBytes (t .kind) (t .size) (t .delta) starts) before r after) where
+    -- the number of start bytes is n, and byte 5 is 0
     writes : WritableSetup most (byte 2 s) (byte 4 s) (startBytes s) (length before)
     writes =
         let l = known .head .limits in
         let n = start-count s (known .head .whole) in
+        let zero = limits-size _ _ _ _ _ l .2 in
         record {
           limits = record {
             kindLow = l .kindLow;
             kindHigh = l .kindHigh;
             someone = omega arith;
             few = omega arith;
-            sizeLow = l .sizeLow;
-            sizeHigh = l .sizeHigh;
-            spareZero = refl;
+            sized = rw n (rw zero at (l .sized));
           };
-          good = known .good;
+          good = rw zero at (known .good);
           fits = omega arith;
         }
 
