@@ -85,7 +85,7 @@ pub extern "C" fn ghindulza_write_setup(
     ensures { λ r. ⌜ Wrote (setupWriteRefusal mostProcesses kind size (now (starts .entry)) (length (now (buffer .entry)))) (setupBytes kind size delta (now (starts .entry))) (now (buffer .entry))
         (record { refusal = r; len = now (len .exit) }) (now (buffer .exit)) ⌝ }
 {
-    let written = setups::write_setup(kind, size, delta, starts, buffer);
+    let written = setups::write_setup(kind as u32, size as u32, delta, starts, buffer);
     *len = written.len as u64;
     written.refusal
 }

@@ -7,7 +7,7 @@ use native.Mathlib.Omega.{arith}
 use lib.ListN.{replicate}
 use Rattle.terms.specs.Limits.{mostProcesses}
 use Rattle.bank.specs.Registers.{afterRead, afterWrite}
-use Rattle.setups.specs.Setup.{badKind, badSize, badStart, setupRefusal}
+use Rattle.setups.specs.Setup.{badSize, badStart, setupRefusal}
 use Rattle.steps.specs.Step.{stepRefusal}
 use Rattle.model.specs.Run.{startRows, fresh, moveAt, stop, after, judge, recordRefusal, advance, follow, runOn, records, restOf, runRefusal}
 use Rattle.model.specs.Counts.{howMany}
@@ -61,7 +61,7 @@ pub record MoreWitnessed : Type 0 where
   pub cut-refused : (run early .outcome ≡ record { number = 16; at = 5 }) × (run (cutAt early 4) ≡ said 4 (4 ∷ 0 ∷ 4 ∷ 0 ∷ 1 ∷ 0 ∷ 0 ∷ 0 ∷ []))
 
 pub more-witnesses : MoreWitnessed
-unfolding afterRead afterWrite badKind badSize badStart setupRefusal stepRefusal startRows fresh moveAt stop after judge recordRefusal
+unfolding afterRead afterWrite badSize badStart setupRefusal stepRefusal startRows fresh moveAt stop after judge recordRefusal
     advance follow runOn records runRefusal line lines reportOf outcomeOf ranOf howMany
 more-witnesses =
     record {

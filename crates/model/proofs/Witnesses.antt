@@ -12,7 +12,7 @@ use Rattle.terms.specs.Limits.{mostProcesses}
 use Rattle.terms.specs.Numbers.{slotOf}
 use Rattle.bank.specs.Registers.{afterRead, afterWrite, valueAt}
 use Rattle.records.specs.Record.{byte}
-use Rattle.setups.specs.Setup.{badKind, badSize, badStart, setupRefusal}
+use Rattle.setups.specs.Setup.{badSize, badStart, setupRefusal}
 use Rattle.steps.specs.Step.{stepRefusal}
 use Rattle.model.specs.declared.State.{State}
 use Rattle.model.specs.Bounds.{Bytes}
@@ -91,7 +91,7 @@ pub record Witnessed : Type 0 where
   pub report-bound : Accepted lateOnce × (number lateOnce 0 2 ≡ 7) × (number lateOnce 0 3 ≡ 1) × (number lateOnce 0 0 ≡ 8)
 
 pub witnesses : Witnessed
-unfolding afterRead afterWrite badKind badSize badStart setupRefusal stepRefusal
+unfolding afterRead afterWrite badSize badStart setupRefusal stepRefusal
     startRows fresh moveAt stop after judge recordRefusal advance follow runOn records runRefusal line lines reportOf outcomeOf ranOf howMany
 witnesses =
     record {
