@@ -27,8 +27,8 @@ module _ (trace : List ℕ) (read : SetupRead) (reads : read ≡ setupRead trace
   unfolding setupRead
   number = ap (λ (x : SetupRead). x .refusal) reads
 
-  pub unset : (read .refusal ≡ 0 → ⊥) → (old : List ℕ) → refusedRun (read .refusal) 0 old ≡ ranOf trace old
-  unset h old = ran-unset trace old (read .refusal) number h
+  pub unset : (read .refusal ≡ 0 → ⊥) → (old : List ℕ) → refusedRun (read .refusal) 0 old ≡ ranOf mostProcesses trace old
+  unset h old = ran-unset mostProcesses trace old (read .refusal) number h
 
   module _ (accepted : read .refusal ≡ 0) where
     passed : setupRefusal mostProcesses trace ≡ 0
@@ -52,27 +52,27 @@ module _ (trace : List ℕ) (read : SetupRead) (reads : read ≡ setupRead trace
     part-is : part ≡ restOf trace
     part-is = part-to-end (8 + read .setup .processes) trace ∙ ap (λ (n : ℕ). drop (8 + n) trace) count
 
-    pub narrow : (old : List ℕ) → length old < lineWidth * read .setup .processes → refusedRun 7 0 old ≡ ranOf trace old
-    narrow old h = ran-narrow trace old passed (omega (arith, count))
+    pub narrow : (old : List ℕ) → length old < lineWidth * read .setup .processes → refusedRun 7 0 old ≡ ranOf mostProcesses trace old
+    narrow old h = ran-narrow mostProcesses trace old passed (omega (arith, count))
 
-    pub too-long : (old : List ℕ) → lineWidth * read .setup .processes ≤ length old → 8 * mostSteps < length part → refusedRun 8 0 old ≡ ranOf trace old
-    too-long old wide h = ran-long trace old passed (omega (arith, count)) (omega (arith, ap length part-is))
+    pub too-long : (old : List ℕ) → lineWidth * read .setup .processes ≤ length old → 8 * mostSteps < length part → refusedRun 8 0 old ≡ ranOf mostProcesses trace old
+    too-long old wide h = ran-long mostProcesses trace old passed (omega (arith, count)) (omega (arith, ap length part-is))
 
     module _ (u : Shape) (shapes : u ≡ shapeOf (read .setup)) where
       shape : u ≡ shapeOf (setupFields trace)
       shape = shapes ∙ ap shapeOf fields
 
       pub sound : Bytes trace → Sound u
-      sound h = subst Sound (sym shape) (setup-sound trace passed h)
+      sound h = subst Sound (sym shape) (setup-sound mostProcesses trace passed h)
 
       pub starts : Starts u (read .setup .starts)
-      starts = rw (shape, fields) (setup-starts trace passed)
+      starts = rw (shape, fields) (setup-starts mostProcesses trace passed)
 
       pub lined : (old : List ℕ) → lineWidth * read .setup .processes ≤ length old → lineWidth * u .count ≤ length old
       lined old wide = omega (arith, ap (λ (x : Shape). x .count) shapes)
 
       pub goes-on : (old : List ℕ) → lineWidth * read .setup .processes ≤ length old → length part ≤ 8 * mostSteps
-          → ranFrom u (read .setup .starts) part old ≡ ranOf trace old
+          → ranFrom u (read .setup .starts) part old ≡ ranOf mostProcesses trace old
       goes-on old wide short =
           rw (shape, ap (λ (x : Setup). x .starts) fields, part-is)
-          (ran-on trace old passed (omega (arith, count)) (omega (arith, ap length part-is)))
+          (ran-on mostProcesses trace old passed (omega (arith, count)) (omega (arith, ap length part-is)))

@@ -1,23 +1,16 @@
 -- One step as the code takes it, in place, and what that is to the run.
 -- Assumes nothing.
-use Prim.Native.Nat.{ℕ, _+_, _*_, _-_, _≤_, _<_}
-use mathlib.Core.Path.{_≡_, refl, sym, ap, ap₂, subst, _∙_}
+use Prim.Native.Nat.{ℕ}
+use mathlib.Core.Path.{_≡_, ap, _∙_}
 use mathlib.Core.Bool.{Bool, true, false, cond}
 use mathlib.Core.List.{List}
-use native.Mathlib.Omega.{arith}
-use lib.ListN.{length, drop, set, length-set, length-drop}
-use Rattle.terms.specs.Limits.{mostProcesses, mostSteps, topTick}
+use lib.ListN.{set}
 use Rattle.terms.specs.declared.ProcessNumber.{ProcessNumber}
 use Rattle.terms.specs.Numbers.{indexOf}
-use Rattle.terms.specs.Overlay.{overlay}
-use Rattle.terms.proofs.RefusalLaws.{if-accepted}
 use Rattle.registers.specs.Deadlines.{Seen, Stored}
 use Rattle.bank.specs.declared.Bank.{Bank}
-use Rattle.bank.specs.Registers.{bankOf, bankSeen, bankStored}
+use Rattle.bank.specs.Registers.{bankSeen, bankStored}
 use Rattle.steps.specs.declared.Step.{Step}
-use Rattle.steps.specs.declared.StepRead.{StepRead}
-use Rattle.steps.specs.Step.{stepRefusal, stepFields, stepRead}
-use Rattle.steps.proofs.StepLaws.{step-said, AcceptedStep}
 use Rattle.model.specs.declared.Place.{Place}
 use Rattle.model.specs.declared.Shape.{Shape}
 use Rattle.model.specs.declared.Row.{Row}
@@ -25,18 +18,12 @@ use Rattle.model.specs.declared.Ask.{Ask}
 use Rattle.model.specs.declared.Shared.{Shared}
 use Rattle.model.specs.declared.State.{State}
 use Rattle.model.specs.Time.{wakeAt}
-use Rattle.model.specs.Routine.{routine, askAt, rowAfter, crash}
+use Rattle.model.specs.Routine.{askAt, rowAfter, crash}
 use Rattle.model.specs.Memory.{Answered, answerOf}
-use Rattle.model.specs.Bounds.{Sound, Starts, Room}
-use Rattle.model.specs.Run.{rowAt, rowOf, startRows, fresh, move, moveAt, stop, after, isMove, judge, reach, records, Progress.going, Progress.stopped}
-use Rattle.model.specs.Report.{lines, outcomeOf, reportOf}
-use Rattle.model.proofs.RunLaws.{recordAt, judgeAt, reach-start, refused-by-bytes, refused-by-judge, accepted-by-both, reach-stays, records-end, records-past}
-use Rattle.model.proofs.Rooms.{reach-room}
-use Rattle.model.proofs.ReportLaws.{ranBy, refusedRun, ran-stopped}
-use Rattle.engine.specs.Stepped.{Due, sharedOf, stepAnswer, stepRow, Stepped, Moved, ranFrom}
-use Rattle.rows.specs.Rows.{Inside, Whole, rowIn, rowsIn, Changed, taken}
+use Rattle.model.specs.Run.{rowOf, move, moveAt, stop, after, isMove}
+use Rattle.engine.specs.Stepped.{stepAnswer, stepRow, Stepped, Moved}
+use Rattle.rows.specs.Rows.{rowIn, Changed, taken}
 use Rattle.rows.proofs.RowLaws.{told-as}
-use Rattle.rows.proofs.RowsLaws.{row-at, changed-rows}
 
 -- ONE STEP
 
@@ -83,7 +70,7 @@ module _ (u : Shape) (k : Step) (j : ℕ) (old new : List ℕ) (b b′ : Bank) (
 
 -- a step's row put back, with memory as it answered
 abbrev pub back : State → Step → Answered → Row → State
-back s k a x = record { rows = set (s .rows) (indexOf (k .process)) x; bank = a .bank; shared = a .shared; last = k .tick }
+back s k a x = record { rows = set (s .rows) (indexOf (k .process)) x; bank = a .bank; shared = a .shared; newest = k .tick }
 
 -- is the state after it
 pub stepped-after : (u : Shape) (s : State) (k : Step) {a : Answered} {x : Row} → a ≡ stepAnswer u (s .bank) (s .shared) (rowOf s (k .process)) k

@@ -25,7 +25,7 @@ use Rattle.model.specs.Report.{lines, outcomeOf, reportOf, Ran}
 use Rattle.model.proofs.RunLaws.{recordAt, judgeAt, reach-start, refused-by-bytes, refused-by-judge, accepted-by-both, reach-stays, records-end, records-past}
 use Rattle.model.proofs.Rooms.{reach-room}
 use Rattle.model.proofs.ReportLaws.{ranBy, ran-stopped}
-use Rattle.rows.specs.Rows.{Inside, Whole, rowIn, rowsIn}
+use Rattle.rows.specs.Rows.{IsRow, Whole, rowIn, rowsIn}
 use Rattle.rows.proofs.RowsLaws.{row-at, changed-rows}
 use Rattle.engine.specs.Stepped.{Due, stepAnswer, stepRow, Stepped, Parts, stateIn, Begins, Walked, ranFrom}
 use Rattle.engine.proofs.StepLaws.{back, stepped-after}
@@ -97,7 +97,7 @@ module _ {u : Shape} {x : State} {rest : List ℕ} {p : Parts} {at k : ℕ} (g :
     among : j < u .count
     among = subst (λ (k : Step). indexOf (k .process) < u .count) (sym fields) (omega (arith, said .limits .processLow, said .limits .processHigh))
 
-    pub seated : Inside j
+    pub seated : IsRow j
     seated = omega (arith, among)
 
     row-is : rowOf s (read .step .process) ≡ rowIn (p .rows) j
@@ -108,16 +108,16 @@ module _ {u : Shape} {x : State} {rest : List ℕ} {p : Parts} {at k : ℕ} (g :
         let led : reach u (fresh u (b .bytes)) rest k ≡ going s = ap (λ (y : State). reach u y rest k) (sym (b .fresh)) ∙ g .so-far in
         subst (Room u) row-is (reach-room u so (b .bytes) (b .starts) rest k led (omega (arith, g .here)) j among)
 
-    judged : judge (rowIn (p .rows) j) (p .newest) (read .step) ≡ judgeAt s (recordAt rest k)
+    judged : judge u (rowIn (p .rows) j) (p .newest) (read .step) ≡ judgeAt u s (recordAt rest k)
     judged =
-        ap (λ (r : Row). judge r (p .newest) (read .step)) (sym row-is)
-        ∙ ap (λ (k : Step). judge (rowOf s (k .process)) (p .newest) k) fields
+        ap (λ (r : Row). judge u r (p .newest) (read .step)) (sym row-is)
+        ∙ ap (λ (k : Step). judge u (rowOf s (k .process)) (p .newest) k) fields
 
-    module _ {y : ℕ} (judges : y ≡ judge (rowIn (p .rows) j) (p .newest) (read .step)) where
+    module _ {y : ℕ} (judges : y ≡ judge u (rowIn (p .rows) j) (p .newest) (read .step)) where
       -- refused by the state
       pub unfit : (y ≡ 0 → ⊥) → (t : Parts) → Walked u x rest (record { number = y; at = k + 1 }) t
       unfit h =
-          let e : y ≡ judgeAt s (recordAt rest k) = judges ∙ judged in
+          let e : y ≡ judgeAt u s (recordAt rest k) = judges ∙ judged in
           falls h (refused-by-judge u x rest k (g .so-far) passed (λ z. h (e ∙ z)) ∙ ap (λ (n : ℕ). stopped n (k + 1)) (sym e))
 
       -- accepted
@@ -146,7 +146,7 @@ module _ {u : Shape} {x : State} {rest : List ℕ} {p : Parts} {at k : ℕ} (g :
                 rows = changed-rows seated long (m .rows) t;
                 bank = m .bank t;
                 shared = m .shared t;
-                last = tick t;
+                newest = tick t;
               })
               ∙ ap (λ (r : Row). back s (read .step) (a r) (after-row r)) (sym row-is)
 

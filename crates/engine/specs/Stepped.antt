@@ -72,7 +72,7 @@ pub record Parts : Type 0 where
 
 abbrev pub stateIn : Parts → State
 stateIn p =
-    record { rows = rowsIn (p .rows); bank = bankOf (p .values) (p .deadlines) (p .last); shared = sharedOf (p .flags); last = p .newest }
+    record { rows = rowsIn (p .rows); bank = bankOf (p .values) (p .deadlines) (p .last); shared = sharedOf (p .flags); newest = p .newest }
 
 -- a state that a run begins with
 pub record Begins (u : Shape) (x : State) : Type 0 where

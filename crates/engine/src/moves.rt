@@ -6,12 +6,13 @@ ghost use lib.ListN.{getD};
 ghost use Rattle.terms.specs.Limits.{mostSlots, topTick};
 ghost use Rattle.bank.specs.Registers.{bankOf};
 ghost use Rattle.model.specs.Bounds.{Sound, Room};
-ghost use Rattle.rows.specs.Rows.{rowIn, Inside, Whole};
+ghost use Rattle.rows.specs.Rows.{rowIn, IsRow, Whole};
 ghost use Rattle.engine.specs.Stepped.{Numbered, Due, sharedOf, Moved, Stepped};
 use model::FLAGS;
 use model::Place;
 use model::Shape;
 use routine::takes;
+use rows::NUMBERS;
 use steps::Step;
 use terms::ProcessNumber;
 use terms::Wait;
@@ -34,7 +35,7 @@ fn make_move(
     i: ProcessNumber,
     tick: u32,
     j: usize,
-    rows: &mut [u32; 288],
+    rows: &mut [u32; NUMBERS],
     values: &mut [u32; 8],
     deadlines: &mut [u32; 256],
     last: &mut u32,
@@ -43,7 +44,7 @@ fn make_move(
     requires { ⌜ Sound shape ⌝ }
     requires { ⌜ Numbered i ⌝ }
     requires { ⌜ tick ≤ topTick ⌝ }
-    requires { ⌜ Inside j ⌝ }
+    requires { ⌜ IsRow j ⌝ }
     requires { ⌜ Whole (now rows) ⌝ }
     requires { ⌜ Room shape (rowIn (now rows) j) ⌝ }
     ensures { λ _. ⌜ Moved shape (rowIn (now (rows .entry)) j .local .place) i tick j (now (rows .entry)) (now (rows .exit))
@@ -96,7 +97,7 @@ pub fn take_step(
     shape: Shape,
     step: Step,
     j: usize,
-    rows: &mut [u32; 288],
+    rows: &mut [u32; NUMBERS],
     values: &mut [u32; 8],
     deadlines: &mut [u32; 256],
     last: &mut u32,
@@ -104,7 +105,7 @@ pub fn take_step(
 )
     requires { ⌜ Sound shape ⌝ }
     requires { ⌜ Due step ⌝ }
-    requires { ⌜ Inside j ⌝ }
+    requires { ⌜ IsRow j ⌝ }
     requires { ⌜ Whole (now rows) ⌝ }
     requires { ⌜ Room shape (rowIn (now rows) j) ⌝ }
     ensures { λ _. ⌜ Stepped shape step j (now (rows .entry)) (now (rows .exit))

@@ -7,24 +7,42 @@ ghost use Rattle.terms.specs.Limits.{mostProcesses};
 ghost use Rattle.terms.specs.Overlay.{overlay};
 ghost use Rattle.model.specs.Routine.{routineOf, routine};
 ghost use Rattle.model.specs.Sizes.{lineWidth};
-ghost use Rattle.model.specs.Report.{shownPlace, figureOf, line, lines};
-ghost use Rattle.rows.specs.Rows.{rowIn, rowsIn, Inside};
+ghost use Rattle.model.specs.Report.{shownOf, shownPlace, figureOf, line, lines};
+ghost use Rattle.rows.specs.Rows.{rowIn, rowsIn, IsRow};
 use model::Kind;
 use model::LINE;
+use model::Place;
 use model::Shape;
+use rows::NUMBERS;
 
-fn shown_place(j: usize, rows: &[u32; 288]) -> u32
-    requires { ⌜ Inside j ⌝ }
+fn shown(place: Place) -> u32
+    ensures { λ n. ⌜ n ≡ shownOf place ⌝ }
+{
+    match place {
+        Place::Rest => 0,
+        Place::Look => 1,
+        Place::Put => 2,
+        Place::Wait => 3,
+        Place::Check => 4,
+        Place::Critical => 5,
+        Place::Flag => 6,
+        Place::Scan => 7,
+        Place::Decided => 8,
+    }
+}
+
+fn shown_place(j: usize, rows: &[u32; NUMBERS]) -> u32
+    requires { ⌜ IsRow j ⌝ }
     ensures { λ n. ⌜ n ≡ shownPlace (rowIn (now (rows .entry)) j) ⌝ }
 {
     if rows::is_crashed(j, rows) {
         return 9;
     }
-    rows::shown(rows::place(j, rows))
+    shown(rows::place(j, rows))
 }
 
-fn figure(kind: Kind, j: usize, rows: &[u32; 288]) -> u32
-    requires { ⌜ Inside j ⌝ }
+fn figure(kind: Kind, j: usize, rows: &[u32; NUMBERS]) -> u32
+    requires { ⌜ IsRow j ⌝ }
     ensures { λ n. ⌜ n ≡ figureOf (routineOf kind) (rowIn (now (rows .entry)) j) ⌝ }
 {
     match kind {
@@ -35,8 +53,8 @@ fn figure(kind: Kind, j: usize, rows: &[u32; 288]) -> u32
 }
 
 // The line of the process with row j, at the report's number `at`.
-pub fn write_line(kind: Kind, j: usize, rows: &[u32; 288], at: usize, report: &mut [u32])
-    requires { ⌜ Inside j ⌝ }
+pub fn write_line(kind: Kind, j: usize, rows: &[u32; NUMBERS], at: usize, report: &mut [u32])
+    requires { ⌜ IsRow j ⌝ }
     requires { ⌜ at + lineWidth ≤ length (now report) ⌝ }
     ensures { λ _. ⌜ now (report .exit) ≡ take at (now (report .entry)) ++ (line (routineOf kind) (rowIn (now (rows .entry)) j) ++ drop (at + lineWidth) (now (report .entry))) ⌝ }
 {
@@ -47,7 +65,7 @@ pub fn write_line(kind: Kind, j: usize, rows: &[u32; 288], at: usize, report: &m
 }
 
 // The lines of all processes, over the report's first numbers.
-pub fn write_lines(shape: Shape, rows: &[u32; 288], report: &mut [u32])
+pub fn write_lines(shape: Shape, rows: &[u32; NUMBERS], report: &mut [u32])
     requires { ⌜ shape .count ≤ mostProcesses ⌝ }
     requires { ⌜ lineWidth * shape .count ≤ length (now report) ⌝ }
     ensures { λ _. ⌜ now (report .exit) ≡ overlay (lines (routine shape) (rowsIn (now (rows .entry))) (shape .count)) (now (report .entry)) ⌝ }

@@ -7,7 +7,7 @@ ghost use Rattle.model.specs.Bounds.{Sound, Starts};
 ghost use Rattle.model.specs.Sizes.{lineWidth};
 ghost use Rattle.model.specs.Run.{startRows, shapeOf, kindOf};
 ghost use Rattle.model.specs.Report.{ranOf};
-ghost use Rattle.rows.specs.Rows.{Whole, rowsIn};
+ghost use Rattle.rows.specs.Rows.{rowsWidth, Whole, rowsIn};
 ghost use Rattle.engine.specs.Stepped.{stateIn, Begins, Walked, ranFrom};
 use crate::moves;
 use crate::report;
@@ -17,15 +17,16 @@ use model::LINE;
 use model::Outcome;
 use model::Shape;
 use routine::judges;
+use rows::NUMBERS;
 use setups::Setup;
 use steps::Step;
 use terms::Trace;
 use terms::Wait;
 
 // Every process begins, in rows that are blank.
-fn begin_rows(shape: Shape, starts: [u8; 32], rows: &mut [u32; 288])
+fn begin_rows(shape: Shape, starts: [u8; 32], rows: &mut [u32; NUMBERS])
     requires { ⌜ shape .count ≤ mostProcesses ⌝ }
-    requires { ⌜ now rows ≡ replicate 288 0 ⌝ }
+    requires { ⌜ now rows ≡ replicate rowsWidth 0 ⌝ }
     ensures { λ _. ⌜ Whole (now (rows .exit)) ⌝ }
     ensures { λ _. ⌜ rowsIn (now (rows .exit)) ≡ startRows shape 0 starts ⌝ }
 {
@@ -41,7 +42,7 @@ fn begin_rows(shape: Shape, starts: [u8; 32], rows: &mut [u32; 288])
 fn take_records(
     shape: Shape,
     rest: &[u8],
-    rows: &mut [u32; 288],
+    rows: &mut [u32; NUMBERS],
     values: &mut [u32; 8],
     deadlines: &mut [u32; 256],
     last: &mut u32,
@@ -72,7 +73,7 @@ fn take_records(
         }
         let step = read.step;
         let j = (step.process.0 - 1) as usize;
-        let no = judges::judge(j, rows, *newest, step);
+        let no = judges::judge(shape, j, rows, *newest, step);
         if no != 0 {
             return Outcome { number: no, at: k };
         }
@@ -91,7 +92,7 @@ fn run_steps(shape: Shape, starts: [u8; 32], rest: &[u8], report: &mut [u32]) ->
     requires { ⌜ lineWidth * shape .count ≤ length (now report) ⌝ }
     ensures { λ r. ⌜ record { outcome = r; report = now (report .exit) } ≡ ranFrom shape starts (now (rest .entry)) (now (report .entry)) ⌝ }
 {
-    let mut rows = [0u32; 288];
+    let mut rows = [0u32; NUMBERS];
     begin_rows(shape, starts, &mut rows);
     let mut values = [0u32; 8];
     let mut deadlines = [Wait::UNLIMITED; 256];
@@ -141,7 +142,7 @@ fn shape_of(setup: Setup) -> Shape
 
 // A run of a trace, with its report: 0 and the count of accepted steps, or the number of a refusal and its record.
 pub fn run(trace: &[u8], report: &mut [u32]) -> Outcome
-    ensures { λ r. ⌜ record { outcome = r; report = now (report .exit) } ≡ ranOf (now (trace .entry)) (now (report .entry)) ⌝ }
+    ensures { λ r. ⌜ record { outcome = r; report = now (report .exit) } ≡ ranOf mostProcesses (now (trace .entry)) (now (report .entry)) ⌝ }
 {
     let read = setups::read_setup(trace);
     let no = read.refusal;

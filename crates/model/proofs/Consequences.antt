@@ -1,9 +1,9 @@
 -- What the invariants say of the rows of a state that accepted records led to, whatever the kind of the run.
 -- Assumes nothing.
 use Prim.Native.Nat.{ℕ, suc, _+_, _*_, _≤_, _<_}
-use mathlib.Core.Path.{_≡_, refl, sym, subst, _∙_}
+use mathlib.Core.Path.{_≡_, refl, sym, ap, subst, _∙_}
 use mathlib.Core.Logic.{_≢_}
-use mathlib.Core.Bool.{Bool, true, false, _||_}
+use mathlib.Core.Bool.{Bool, true, false, false≢true, _||_}
 use mathlib.Core.List.{List}
 use native.Mathlib.Omega.{arith}
 use native.Mathlib.Decide.{decLt}
@@ -33,8 +33,9 @@ use Rattle.model.proofs.Turns.{turn}
 use Rattle.model.proofs.Keeping.{slot-small, fresh-rows, each-kept}
 use Rattle.model.proofs.View.{view}
 use Rattle.model.proofs.Invariants.{Inv, Along, nothing, Good, Bare, reach-good}
-use Rattle.model.proofs.Shown.{shows-inside, shows-decided, decided-shows}
-use Rattle.model.proofs.Tally.{Proposer, HasProposer, proposed-along, proposed-start, Cap, Capped, capped-along, capped-start, plain-within, fast-within}
+use Rattle.model.proofs.Shown.{shows-inside, shows-decided, decided-shows, neither-shows}
+use Rattle.model.proofs.Tally.{Proposer, HasProposer, proposed-along, proposed-start, Cap, Capped, capped-along, capped-start, plain-within}
+use Rattle.model.proofs.Tally.{fast-within}
 
 -- THE KIND, from a place
 
@@ -73,10 +74,10 @@ slot-figure (Routine.Lock how) p a b r = refl
 slot-figure Routine.Plain p a b r = absurd (differ (reachable Routine.Plain) inside tt p a b)
 slot-figure Routine.Fast p a b r = absurd (differ (reachable Routine.Fast) inside tt p a b)
 
-decision-figure : (κ : Routine) (p : Place) → T (reachable κ p) → T (settled p) → (r : Row) → figureOf κ r ≡ r .local .decided
-decision-figure (Routine.Lock how) p a b r = absurd (differ (reachable (Routine.Lock how)) settled tt p a b)
-decision-figure Routine.Plain p a b r = refl
-decision-figure Routine.Fast p a b r = refl
+decision-figure : (κ : Routine) → T (timedDecision κ) → (r : Row) → figureOf κ r ≡ r .local .decided
+decision-figure (Routine.Lock how) h r = absurd h
+decision-figure Routine.Plain h r = refl
+decision-figure Routine.Fast h r = refl
 
 -- A POINT of a run: the state s after k accepted records
 pub record Point (u : Shape) (s : State) : Type 0 where
@@ -146,6 +147,12 @@ module _ {u : Shape} {s : State} (point : Point u s) where
     of-decision : T (timedDecision (routine u)) × DecideInv (clock ordinary (u .delta)) seen
     of-decision = decide-inv (routine u) u seen (rowAt s j .local .place) (reaches j) a (good .inv)
 
+    -- it decided something
+    pub decision-real : rowAt s j .local .decided ≢ 0
+    decision-real z =
+        let inv = of-decision .1 in
+        inv .filled j (settled-past (rowAt s j .local .place) a) (sym (inv .settled j a .stands) ∙ z)
+
     -- two that decided decided alike
     pub one-decision : (i : ℕ) → T (settled (rowAt s i .local .place)) → rowAt s i .local .decided ≡ rowAt s j .local .decided
     one-decision i b = agreement (clock ordinary (u .delta)) seen (of-decision .1) i j b a
@@ -177,6 +184,17 @@ module _ {u : Shape} {s : State} (point : Point u s) where
         (λ i h ok l. own-begins (routine u) i (getD xs i 0) (of-decision .0)) in
         (i, p .among, sym (started i (p .among)) ∙ sym (own-stays i) ∙ p .proposed, p .active)
 
+  -- who has not decided has no decided value, so who has one has decided
+  pub undecided-none : (j : ℕ) → rowAt s j .local .place ≢ Place.Decided → rowAt s j .local .decided ≡ 0
+  undecided-none j = good .kept .each j .undecided
+
+  value-decided : (j : ℕ) → rowAt s j .local .decided ≢ 0 → T (settled (rowAt s j .local .place))
+  value-decided j n = by (settled (rowAt s j .local .place)) refl
+    where
+      by : (b : Bool) → settled (rowAt s j .local .place) ≡ b → T b
+      by true e = tt
+      by false e = absurd (n (undecided-none j (λ q. false≢true (sym e ∙ ap settled q))))
+
   -- MOVES
   capped : T (timedDecision (routine u)) → Capped u seen
   capped n = along (Capped u) (capped-along ordinary u n) (capped-start u)
@@ -200,17 +218,28 @@ module _ {u : Shape} {s : State} (point : Point u s) where
         let slot = slot-figure (routine u) (rowAt s j .local .place) (reaches j) q in
         one-inside j q i (shows-inside (rowAt s i) a) (sym (slot (rowAt s i)) ∙ e ∙ slot (rowAt s j))
 
-    pub shown-agreement : shownPlace (rowAt s i) ≡ 8 → shownPlace (rowAt s j) ≡ 8 → figureOf (routine u) (rowAt s i) ≡ figureOf (routine u) (rowAt s j)
-    shown-agreement a b =
-        let q = shows-decided (rowAt s j) b in
-        let value = decision-figure (routine u) (rowAt s j .local .place) (reaches j) q in
-        value (rowAt s i) ∙ one-decision j q i (shows-decided (rowAt s i) a) ∙ sym (value (rowAt s j))
+  -- of a decision: a second number that is not 0 is decided
+  module _ (n : T (timedDecision (routine u))) where
+    figure : (j : ℕ) → figureOf (routine u) (rowAt s j) ≡ rowAt s j .local .decided
+    figure j = decision-figure (routine u) n (rowAt s j)
 
-  pub shown-proposed : (j : ℕ) → shownPlace (rowAt s j) ≡ 8
-      → (i : ℕ) × (i < u .count) × (getD xs i 0 ≡ figureOf (routine u) (rowAt s j)) × (1 ≤ rowAt s i .moves)
-  shown-proposed j b =
-      let q = shows-decided (rowAt s j) b in
-      rw (decision-figure (routine u) (rowAt s j .local .place) (reaches j) q (rowAt s j)) (decision-proposed j q)
+    figured : (j : ℕ) → figureOf (routine u) (rowAt s j) ≢ 0 → T (settled (rowAt s j .local .place))
+    figured j a = value-decided j (λ z. a (figure j ∙ z))
+
+    pub shown-agreement : (i j : ℕ) → figureOf (routine u) (rowAt s i) ≢ 0 → figureOf (routine u) (rowAt s j) ≢ 0
+        → figureOf (routine u) (rowAt s i) ≡ figureOf (routine u) (rowAt s j)
+    shown-agreement i j a b = figure i ∙ one-decision j (figured j b) i (figured i a) ∙ sym (figure j)
+
+    pub shown-proposed : (j : ℕ) → figureOf (routine u) (rowAt s j) ≢ 0
+        → (i : ℕ) × (i < u .count) × (getD xs i 0 ≡ figureOf (routine u) (rowAt s j)) × (1 ≤ rowAt s i .moves)
+    shown-proposed j a = rw (figure j) (decision-proposed j (figured j a))
+
+    -- and who shows neither 8 nor 9 has 0 there, who shows 8 has not
+    pub shown-undecided : (j : ℕ) → shownPlace (rowAt s j) ≢ 8 → shownPlace (rowAt s j) ≢ 9 → figureOf (routine u) (rowAt s j) ≡ 0
+    shown-undecided j a b = figure j ∙ undecided-none j (neither-shows (rowAt s j) a b)
+
+    pub shown-decided : (j : ℕ) → shownPlace (rowAt s j) ≡ 8 → figureOf (routine u) (rowAt s j) ≢ 0
+    shown-decided j a z = decision-real j (shows-decided (rowAt s j) a) (sym (figure j) ∙ z)
 
   -- once it has made the most moves, a row that has not crashed shows 8
   pub shown-done : (bound j : ℕ) → Within bound (rowAt s j) → rowAt s j .moves ≡ bound → shownPlace (rowAt s j) ≢ 9

@@ -18,6 +18,7 @@ use Rattle.model.specs.Routine.{Routine, routine, crash, unmoved, begin}
 use Rattle.model.specs.Bounds.{Bytes, Sound, Starts}
 use Rattle.model.specs.Run.{rowAt, rowOf, fresh, isMove, after, stepAt, reach, Progress, Progress.going, shape, restOf, startOf, records, runOf}
 use Rattle.model.specs.Counts.{howMany, moveOf, wroteLate, movesOf, latesOf}
+use Rattle.model.specs.Claims.{Counted}
 use Rattle.model.proofs.RunLaws.{run-going}
 use Rattle.model.proofs.Turns.{rowGone, turn}
 use Rattle.model.proofs.Keeping.{Kept, Admitted, fresh-rows, each-kept}
@@ -109,13 +110,6 @@ moves-column u = record { begins = λ p c v. refl; stops = λ r. refl; goes = λ
 
 lates-column : (u : Shape) → Column u (λ r. r .lates) (wroteLate u)
 lates-column u = record { begins = λ p c v. refl; stops = λ r. refl; goes = λ s k. refl }
-
--- row j after k records of these bytes, from the state x
-pub record Counted (u : Shape) (x : State) (rest : List ℕ) (k j : ℕ) (r : Row) : Type 0 where
-  pub moves : r .moves ≡ movesOf rest (processOf (j + 1)) k
-  pub lates : r .lates ≡ latesOf u x rest (processOf (j + 1)) k
-  pub fewer : r .lates ≤ r .moves
-  pub within : r .moves ≤ k
 
 -- after each accepted record
 pub reach-counts : (u : Shape) → Sound u → (xs : List ℕ) → Starts u xs → (rest : List ℕ) (k : ℕ) {s : State} → reach u (fresh u xs) rest k ≡ going s

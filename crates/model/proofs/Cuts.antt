@@ -17,7 +17,8 @@ use Rattle.steps.specs.Step.{stepRefusal, stepFields}
 use Rattle.steps.specs.declared.Step.{Step}
 use Rattle.model.specs.declared.Shape.{Shape}
 use Rattle.model.specs.declared.State.{State}
-use Rattle.model.specs.Run.{Progress, Progress.going, Progress.stopped, rowOf, judge, recordRefusal, recordAt, advance, follow, stepTape, reach, shape, restOf}
+use Rattle.model.specs.Run.{Progress, Progress.going, Progress.stopped, rowOf, judge, recordRefusal, recordAt, advance, follow, stepTape, reach}
+use Rattle.model.specs.Run.{shape, restOf}
 
 -- the part past i of what is cut at i + n
 pub drop-take : (i n : ℕ) (s : List ℕ) → drop i (take (i + n) s) ≡ take n (drop i s)
@@ -43,7 +44,18 @@ module _ (m : ℕ) (s : List ℕ) (h : 8 ≤ m) where
 
   step-cut : (most : ℕ) → stepRefusal most (take m s) ≡ stepRefusal most s
   unfolding stepRefusal
-  step-cut most = rw (short-cut m s 8 h, byte-cut 0 (lit< tt), byte-cut 1 (lit< tt), byte-cut 2 (lit< tt), byte-cut 3 (lit< tt), byte-cut 4 (lit< tt), byte-cut 5 (lit< tt), byte-cut 6 (lit< tt), byte-cut 7 (lit< tt))
+  step-cut most =
+      rw (
+        short-cut m s 8 h,
+        byte-cut 0 (lit< tt),
+        byte-cut 1 (lit< tt),
+        byte-cut 2 (lit< tt),
+        byte-cut 3 (lit< tt),
+        byte-cut 4 (lit< tt),
+        byte-cut 5 (lit< tt),
+        byte-cut 6 (lit< tt),
+        byte-cut 7 (lit< tt),
+      )
 
   record-cut : (u : Shape) (x : State) → recordRefusal u x (take m s) ≡ recordRefusal u x s
   unfolding recordRefusal

@@ -10,7 +10,8 @@ use lib.Dec.{T}
 use Rattle.model.specs.declared.Place.{Place}
 use Rattle.model.specs.Routine.{Routine, counted, crash, plainNext}
 use Rattle.model.proofs.Places.{imply, differ, inKind, putting, settled, checking, past}
-use Rattle.model.proofs.World.{Seat, Commons, World, Placed, Putting, Clock, wakeOf, Moves, put, put-all, put-same, moved, crashed, slotAt, wakeOn, ownOf}
+use Rattle.model.proofs.World.{Seat, Commons, World, Placed, Putting, Clock, wakeOf, Moves, put, put-all, put-same, moved, crashed, slotAt}
+use Rattle.model.proofs.World.{wakeOn, ownOf}
 use Rattle.model.proofs.Pattern.{LateFrom, Bound, read-binds, stays-bound, wait-outlasts, Definitive, Touches, definitive-stands}
 
 abbrev pub HasDecided : Seat → Type 0
@@ -133,7 +134,8 @@ module _ (k : Clock) (w : World) (m t : ℕ) (inv : DecideInv k w) (later : w .f
       }
 
   -- to put, having read the register empty
-  pub enters : (s : Seat) → w .value 0 ≡ 0 → s .deadline ≡ t + k .delta → (Past s → ⊥) → (Checking s → ⊥) → (HasDecided s → ⊥) → Sits k w m s (w .value 0) (k .next t)
+  pub enters : (s : Seat) → w .value 0 ≡ 0 → s .deadline ≡ t + k .delta → (Past s → ⊥) → (Checking s → ⊥) → (HasDecided s → ⊥)
+      → Sits k w m s (w .value 0) (k .next t)
   enters s z d a b c =
       record {
         later = on-time;
@@ -151,7 +153,8 @@ module _ (k : Clock) (w : World) (m t : ℕ) (inv : DecideInv k w) (later : w .f
       }
 
   -- a write that is not late, to a place neither at put nor past a look
-  pub writes : (s : Seat) → Putting (w .seat m) → slotAt (w .seat m) ≡ 0 → t ≤ w .seat m .deadline → ownOf (w .seat m) ≢ 0 → (Past s → ⊥) → (Checking s → ⊥) → (HasDecided s → ⊥) → (Putting s → ⊥)
+  pub writes : (s : Seat) → Putting (w .seat m) → slotAt (w .seat m) ≡ 0 → t ≤ w .seat m .deadline → ownOf (w .seat m) ≢ 0 → (Past s → ⊥)
+      → (Checking s → ⊥) → (HasDecided s → ⊥) → (Putting s → ⊥)
       → Sits k w m s (ownOf (w .seat m)) (k .next t)
   writes s p u h z a b c d =
       record {
@@ -194,7 +197,8 @@ module _ (k : Clock) (w : World) (m t : ℕ) (inv : DecideInv k w) (later : w .f
       }
 
   -- to the check without a wait, where all that is still to be written is what stands in the register
-  pub skips : (s : Seat) → w .value 0 ≢ 0 → wakeOn s ≡ 0 → ((j : ℕ) → Putting (w .seat j) → ownOf (w .seat j) ≡ w .value 0) → (HasDecided s → ⊥) → (Putting s → ⊥)
+  pub skips : (s : Seat) → w .value 0 ≢ 0 → wakeOn s ≡ 0 → ((j : ℕ) → Putting (w .seat j) → ownOf (w .seat j) ≡ w .value 0) → (HasDecided s → ⊥)
+      → (Putting s → ⊥)
       → Sits k w m s (w .value 0) (k .next t)
   skips s a u q c d =
       record {
@@ -213,7 +217,8 @@ module _ (k : Clock) (w : World) (m t : ℕ) (inv : DecideInv k w) (later : w .f
       }
 
   -- the decision
-  pub settles : (s : Seat) → Checking (w .seat m) → s .row .local .decided ≡ w .value 0 → wakeOn s ≡ wakeOn (w .seat m) → (Putting s → ⊥) → Sits k w m s (w .value 0) (k .next t)
+  pub settles : (s : Seat) → Checking (w .seat m) → s .row .local .decided ≡ w .value 0 → wakeOn s ≡ wakeOn (w .seat m) → (Putting s → ⊥)
+      → Sits k w m s (w .value 0) (k .next t)
   settles s a v u d =
       record {
         later = on-time;

@@ -13,7 +13,8 @@ use Rattle.model.specs.declared.Place.{Place}
 use Rattle.model.specs.declared.Local.{Local}
 use Rattle.model.specs.Routine.{Routine, to, scans, counted, crash, scanAt, fastNext}
 use Rattle.model.proofs.Places.{imply, inKind, putting, raised, scanning, checking, past}
-use Rattle.model.proofs.World.{Seat, Commons, World, Placed, Putting, Clock, wakeOf, Moves, put, put-all, put-same, moved, crashed, slotAt, wakeOn, ownOf}
+use Rattle.model.proofs.World.{Seat, Commons, World, Placed, Putting, Clock, wakeOf, Moves, put, put-all, put-same, moved, crashed, slotAt}
+use Rattle.model.proofs.World.{wakeOn, ownOf}
 use Rattle.model.proofs.DecideSafe.{Checking, Past, DecideInv, Sits, seated, put-at, decide-crashes, goes, enters, writes, waits, skips, settles}
 
 abbrev pub Raised : Seat → Type 0
@@ -159,7 +160,8 @@ module _ (k : Clock) (size : ℕ) (w : World) (m t : ℕ) (dec : DecideInv k w) 
       → Both (seatAt (scanAt size s (w .seat m .row .local)) d) (w .value) (w .shared)
   sought s d n z c = go (leb s size) refl
     where
-      go : (y : Bool) → leb s size ≡ y → Both (seatAt (cond y (scans s (to Place.Scan (w .seat m .row .local))) (to Place.Check (w .seat m .row .local))) d) (w .value) (w .shared)
+      go : (y : Bool) → leb s size ≡ y
+          → Both (seatAt (cond y (scans s (to Place.Scan (w .seat m .row .local))) (to Place.Check (w .seat m .row .local))) d) (w .value) (w .shared)
       go true e =
           record {
             sits = goes k w m t dec later awake _ (λ x. n) (λ x. x) (λ x. x) (λ x. x);

@@ -128,7 +128,7 @@ module _ (c : Pace) (u : Shape) (so : Sound u) (P : World → Type 0) (al : Alon
         let seen = sees (clock c (u .delta)) u s i t (shaped u s so (good .kept)) few refl (omega (arith, so .bounded)) f (c .next t) p (told p r a) refl
         (mobile p (free .undecided)) (ask-fits (routine u) u so (indexOf i) r ok p (ok .place h)) in
         record {
-          kept = kept-move u so s (good .kept) i t h;
+          kept = kept-move u so s (good .kept) i t h (free .undecided);
           inv =
               subst (Inv c (routine u) u) (sym (seen .looks))
               (inv-moves c (routine u) u (view f s) (indexOf i) t (a .late) h free later (omega arith) refl ok (seen .rule) (good .inv));

@@ -1,8 +1,8 @@
 -- What every state of a run keeps: the lengths of its lists, and each row as its routine has it.
 -- Assumes nothing.
 use Prim.Native.Nat.{ℕ, zero, suc, _+_, _*_, _≤_, _<_}
-use mathlib.Core.Path.{_≡_, refl, ap, _∙_}
-use mathlib.Core.Bool.{Bool, true, false, cond}
+use mathlib.Core.Path.{_≡_, refl, sym, ap, _∙_}
+use mathlib.Core.Bool.{Bool, true, false, cond, false≢true}
 use mathlib.Core.List.{List, [], _∷_}
 use native.Mathlib.Omega.{arith}
 use native.Mathlib.Nat.{add-zero, add-suc, suc-add, zero-add}
@@ -22,7 +22,7 @@ use Rattle.model.specs.declared.Reply.{Reply}
 use Rattle.model.specs.declared.Shared.{Shared}
 use Rattle.model.specs.declared.State.{State}
 use Rattle.model.specs.Time.{wakeAt}
-use Rattle.model.specs.Routine.{routine, askAt, begin}
+use Rattle.model.specs.Routine.{routine, askAt, begin, isDecided}
 use Rattle.model.specs.Memory.{reply, bankAfter, sharedAfter}
 use Rattle.model.specs.Bounds.{Sound, startOk, Starts}
 use Rattle.model.specs.Sizes.{flagCount}
@@ -76,12 +76,13 @@ module _ (u : Shape) (so : Sound u) (s : State) (kt : Kept u s) where
     there : indexOf i < length (s .rows)
     there = omega (arith, kt .rows)
 
-    pub kept-move : Kept u (move u s i t)
+    pub kept-move : isDecided (rowOf s i .local .place) ≡ false → Kept u (move u s i t)
     unfolding moveAt
-    kept-move =
+    kept-move undecided =
         let r : Row = rowOf s i in
         let q : Ask = askAt (r .local .place) (u .delta) r in
         let a : Reply = reply (s .bank) (s .shared) i t q in
+        let none = kt .each (indexOf i) .undecided (λ e. false≢true (sym undecided ∙ ap isDecided e)) in
         record {
           rows = rw (length-set (s .rows)) (kt .rows);
           values = values-length (s .bank) i t q ∙ kt .values;
@@ -90,7 +91,7 @@ module _ (u : Shape) (so : Sound u) (s : State) (kt : Kept u s) where
           each =
               each-row (RowOk (routine u) u) (s .rows) (indexOf i) _ there (λ j n. kt .each j)
               (row-ok (routine u) u (indexOf i) r _ (kt .each (indexOf i)) refl
-              (next-ok u so (indexOf i) r (a .value) (wakeAt (u .delta) t) (routine u) (kt .each (indexOf i)) (r .local .place) _));
+              (next-ok u so (indexOf i) r none (a .value) (wakeAt (u .delta) t) (routine u) (kt .each (indexOf i)) (r .local .place) _));
           beyond = each-row (λ j x. u .count ≤ j → x ≡ blank) (s .rows) (indexOf i) _ there (λ j n. kt .beyond j) (λ l. absurd (omega arith));
         }
 
@@ -111,7 +112,7 @@ module _ (u : Shape) (so : Sound u) (s : State) (kt : Kept u s) where
 
   pub kept-after : (k : Step) → Admitted u s k → Kept u (after u s k)
   kept-after k ad =
-      move-or-stop u s k (Kept u) (λ e. kept-move (k .process) (k .tick) (ad .inside)) (λ e. kept-stop (k .process) (k .tick) (ad .inside))
+      move-or-stop u s k (Kept u) (λ e. kept-move (k .process) (k .tick) (ad .inside) (ad .unsettled e)) (λ e. kept-stop (k .process) (k .tick) (ad .inside))
 
 -- A RUN, from its beginning
 

@@ -56,5 +56,6 @@ module _ (u : Shape) (so : Sound u) (xs : List ℕ) (st : Starts u xs) (rest : L
       turn u s (stepAt rest k) (omega (arith, kt .rows, ad .inside)) (λ m r. m ≡ i → DecidedOn v r) (λ m n e. rw e old) (λ b e. rw e old)
       (λ b e. absurd (moved s (stepAt rest k) old e (ad .unsettled b))) i refl)
     where
-      moved : (s : State) (k : Step) → DecidedOn v (rowAt s i) → indexOf (k .process) ≡ i → isDecided (rowAt s (indexOf (k .process)) .local .place) ≡ false → ⊥
+      moved : (s : State) (k : Step) → DecidedOn v (rowAt s i) → indexOf (k .process) ≡ i
+          → isDecided (rowAt s (indexOf (k .process)) .local .place) ≡ false → ⊥
       moved s k old e d = false≢true (sym (rw e at d) ∙ ap isDecided (old .0))

@@ -42,7 +42,8 @@ pub record LockInv (k : Clock) (w : World) : Type 0 where
   pub waited : (i : ℕ) → Claiming (w .seat i) → w .value (slotAt (w .seat i)) ≡ suc i → LateFrom w (slotAt (w .seat i)) (wakeOn (w .seat i))
   pub bound : Bound k w
 
-pub exclusion : (k : Clock) (w : World) → LockInv k w → (i j : ℕ) → InSection (w .seat i) → InSection (w .seat j) → slotAt (w .seat i) ≡ slotAt (w .seat j) → i ≡ j
+pub exclusion : (k : Clock) (w : World) → LockInv k w → (i j : ℕ) → InSection (w .seat i) → InSection (w .seat j)
+    → slotAt (w .seat i) ≡ slotAt (w .seat j) → i ≡ j
 exclusion k w inv i j a b e =
     let p = inv .inside i a .stands in
     let q = inv .inside j b .stands in
@@ -72,7 +73,8 @@ record Fits (k : Clock) (w : World) (m : ℕ) (s : Seat) (v : ℕ → ℕ) (f : 
   holds : (c : ℕ) → v c ≡ suc m → Holding s × (slotAt s ≡ c)
   inside : InSection s → InsideAt v f m s
   waited : Claiming s → v (slotAt s) ≡ suc m → LateFrom w (slotAt s) (wakeOn s)
-  joins : Putting s → (i : ℕ) → i ≢ m → Claiming (w .seat i) → v (slotAt (w .seat i)) ≡ suc i → slotAt s ≡ slotAt (w .seat i) → s .deadline < wakeOn (w .seat i)
+  joins : Putting s → (i : ℕ) → i ≢ m → Claiming (w .seat i) → v (slotAt (w .seat i)) ≡ suc i → slotAt s ≡ slotAt (w .seat i)
+      → s .deadline < wakeOn (w .seat i)
   bound : Putting s → s .deadline < wakeOf k f
   single : Claiming s → Putting s → ⊥
   -- no other number is written, and none of a process inside is written over
@@ -103,7 +105,8 @@ seated k w m s v g f inv fit =
     }
 
 -- who has its number nowhere, and is neither about to write nor inside
-away : (k : Clock) (w : World) (m : ℕ) (s : Seat) (f : ℕ) → w .floor ≤ f → ((c : ℕ) → w .value c ≡ suc m → ⊥) → (InSection s → ⊥) → (Putting s → ⊥) → Fits k w m s (w .value) f
+away : (k : Clock) (w : World) (m : ℕ) (s : Seat) (f : ℕ) → w .floor ≤ f → ((c : ℕ) → w .value c ≡ suc m → ⊥) → (InSection s → ⊥) → (Putting s → ⊥)
+    → Fits k w m s (w .value) f
 away k w m s f l none a b =
     record {
       later = l;

@@ -29,7 +29,8 @@ pub wait-outlasts : (k : Clock) (w : World) (t c : ℕ) → Bound k w → w .flo
 wait-outlasts k w t c bound h j p e = stays-bound k (w .floor) t (w .seat j .deadline) h (bound j p)
 
 -- so a write that is not late, after that, is to another register
-pub in-time-elsewhere : (w : World) (c wake : ℕ) → LateFrom w c wake → (m t : ℕ) → wake ≤ t → Putting (w .seat m) → t ≤ w .seat m .deadline → slotAt (w .seat m) ≢ c
+pub in-time-elsewhere : (w : World) (c wake : ℕ) → LateFrom w c wake → (m t : ℕ) → wake ≤ t → Putting (w .seat m) → t ≤ w .seat m .deadline
+    → slotAt (w .seat m) ≢ c
 in-time-elsewhere w c wake late m t h p g e = omega (arith, late m p e)
 
 -- THEOREM 1

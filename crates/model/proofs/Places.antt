@@ -97,7 +97,8 @@ and-right false b t = absurd t
 -- a test holds at every place
 abbrev pub everywhere : (Place → Bool) → Bool
 everywhere f =
-    ((f Place.Rest && f Place.Look) && (f Place.Put && f Place.Wait)) && (((f Place.Check && f Place.Critical) && (f Place.Flag && f Place.Scan)) && f Place.Decided)
+    ((f Place.Rest && f Place.Look) && (f Place.Put && f Place.Wait))
+    && (((f Place.Check && f Place.Critical) && (f Place.Flag && f Place.Scan)) && f Place.Decided)
 
 pub every-place : (f : Place → Bool) → T (everywhere f) → (p : Place) → T (f p)
 every-place f t p =

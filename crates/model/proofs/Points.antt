@@ -15,24 +15,16 @@ use Rattle.setups.specs.Setup.{places}
 use Rattle.model.specs.declared.Shape.{Shape}
 use Rattle.model.specs.declared.State.{State}
 use Rattle.model.specs.Routine.{routine}
-use Rattle.model.specs.Run.{fresh, recordRefusal, Progress, Progress.going, Progress.stopped, recordAt, advance, follow, stepTape, reach, records, shape, restOf, startOf, reached, runRefusal, runOf}
+use Rattle.model.specs.Run.{fresh, recordRefusal, Progress, Progress.going, Progress.stopped, recordAt, advance, follow, stepTape, reach}
+use Rattle.model.specs.Run.{records, shape, restOf, startOf, reached, runRefusal, runOf}
+use Rattle.model.specs.Claims.{cutAt, CutThere}
 use Rattle.model.specs.Report.{lines, reportOf, outcomeOf, ranOf}
 use Rattle.model.proofs.RunLaws.{follow-going-before, reach-long, records-end, run-follows, run-ends, run-going}
 use Rattle.model.proofs.SetupSays.{run-said, said-run}
+use Rattle.model.proofs.Shown.{run-stopped-after, accepted-goes, refused-stops}
 use Rattle.model.proofs.Cuts.{reach-cut, starts-cut, shape-cut, setup-cut, rest-cut}
 
 -- CUT TRACES
-
--- the setup and the first k records
-abbrev pub cutAt : List ℕ → ℕ → List ℕ
-cutAt trace k = take (8 + byte 3 trace + k * 8) trace
-
--- the whole run has the state s after k records, and the trace cut there is accepted, with 0 and k, and has the state s at its end
-pub record CutThere (most : ℕ) (trace old : List ℕ) (k : ℕ) (s : State) : Type 0 where
-  pub whole : reached most trace k ≡ going s
-  pub cut : runOf most (cutAt trace k) (length old) ≡ going s
-  pub outcome : ranOf most (cutAt trace k) old .outcome ≡ record { number = 0; at = k }
-  pub report : ranOf most (cutAt trace k) old .report ≡ overlay (lines (routine (shape trace)) (s .rows) (byte 3 trace)) old
 
 -- A trace cut after any accepted record is a trace, whatever comes behind: also where a later record is refused.
 module _ (most : ℕ) (trace old : List ℕ) (fits : runRefusal most trace (length old) ≡ 0) (k : ℕ) {s : State} (e : reached most trace k ≡ going s) where
@@ -53,7 +45,8 @@ module _ (most : ℕ) (trace old : List ℕ) (fits : runRefusal most trace (leng
 
   cut-reached : reached most (cutAt trace k) k ≡ going s
   cut-reached =
-      ap₂ (λ (u : Shape) (starts : List ℕ). reach u (fresh u (places most starts)) (restOf (cutAt trace k)) k) (shape-cut trace (k * 8)) (starts-cut trace (k * 8))
+      ap₂ (λ (u : Shape) (starts : List ℕ). reach u (fresh u (places most starts)) (restOf (cutAt trace k)) k)
+      (shape-cut trace (k * 8)) (starts-cut trace (k * 8))
       ∙ ap (λ (rest : List ℕ). reach (shape trace) (startOf most trace) rest k) (rest-cut trace (k * 8))
       ∙ reach-cut _ _ (restOf trace) (k * 8) k (omega arith)
       ∙ e
@@ -69,11 +62,19 @@ module _ (most : ℕ) (trace old : List ℕ) (fits : runRefusal most trace (leng
         report = ap₂ (λ (u : Shape) (p : Progress). reportOf u old p) (shape-cut trace (k * 8)) there;
       }
 
--- every point of an accepted run
-pub cut-anywhere : (most : ℕ) (trace old : List ℕ) {s : State} → runOf most trace (length old) ≡ going s → (k : ℕ) → k ≤ records (restOf trace) → (t : State) × CutThere most trace old k t
-cut-anywhere most trace old e k l =
-    let both = run-going _ _ _ _ e in
+-- every point of an accepted run, and of a refused one up to its refusal
+pub cut-anywhere : (most : ℕ) (trace old : List ℕ) → ranOf most trace old .outcome .number ≡ 0 → (k : ℕ) → k ≤ records (restOf trace)
+    → (s : State) × CutThere most trace old k s
+cut-anywhere most trace old accepted k l =
+    let both = run-going _ _ _ _ (accepted-goes most trace old accepted .1) in
     let there = follow-going-before _ _ k (records (restOf trace)) (both .1) l in
+    (there .0, cut-there most trace old (both .0) k (there .1))
+
+pub cut-before : (most : ℕ) (trace old : List ℕ) {x j : ℕ} → ranOf most trace old .outcome ≡ record { number = suc x; at = suc j } → (k : ℕ) → k ≤ j
+    → (s : State) × CutThere most trace old k s
+cut-before most trace old refused k l =
+    let both = run-stopped-after _ _ _ _ (refused-stops most trace old refused) in
+    let there = follow-going-before _ _ k (both .1 .k) (both .1 .led) (omega (arith, both .1 .index)) in
     (there .0, cut-there most trace old (both .0) k (there .1))
 
 -- TWO PARTS, one after the other
@@ -120,11 +121,13 @@ unfolding reportOf
 written-over u old (going s) = refl
 written-over u old (stopped y j) = refl
 
-pub written-by-length : (most : ℕ) (trace : List ℕ) (room : ℕ) → (w : List ℕ) × ((old : List ℕ) → length old ≡ room → ranOf most trace old .report ≡ overlay w old)
+pub written-by-length : (most : ℕ) (trace : List ℕ) (room : ℕ)
+    → (w : List ℕ) × ((old : List ℕ) → length old ≡ room → ranOf most trace old .report ≡ overlay w old)
 unfolding ranOf
 written-by-length most trace room =
     (writtenOf (shape trace) (runOf most trace room), λ old h. rw h (written-over (shape trace) old (runOf most trace room)))
 
 -- two reports that are both long enough see the same run
-pub run-by-bytes : (most : ℕ) (trace : List ℕ) (room other : ℕ) → runRefusal most trace room ≡ 0 → runRefusal most trace other ≡ 0 → runOf most trace room ≡ runOf most trace other
+pub run-by-bytes : (most : ℕ) (trace : List ℕ) (room other : ℕ) → runRefusal most trace room ≡ 0 → runRefusal most trace other ≡ 0
+    → runOf most trace room ≡ runOf most trace other
 run-by-bytes most trace room other h g = run-follows _ _ _ _ h ∙ sym (run-follows _ _ _ _ g)

@@ -2,22 +2,27 @@
 -- Assumes nothing.
 use Prim.Native.Nat.{ℕ, zero, suc, _+_, _*_, _≤_, _<_}
 use mathlib.Core.Path.{_≡_, refl, sym, subst, _∙_}
+use mathlib.Core.Logic.{_≢_}
 use mathlib.Core.List.{List}
 use native.Mathlib.Omega.{arith}
+use native.Mathlib.Decide.{ℕ-discrete}
 use lib.Dec.{T}
 use lib.ListN.{length, getD}
 use Rattle.records.specs.Record.{byte}
 use Rattle.setups.specs.Setup.{places, startBytes}
 use Rattle.setups.proofs.SetupLaws.{setup-said, place-at}
 use Rattle.model.specs.declared.State.{State}
+use Rattle.model.specs.Routine.{routineOf, routine}
 use Rattle.model.specs.Bounds.{Bytes}
-use Rattle.model.specs.Run.{rowAt, shape, restOf, records, reached, runOf, Progress.going, Progress.stopped}
+use Rattle.model.specs.Run.{rowAt, kindOf, shape, restOf, records, startOf, reached, runOf, Progress.going, Progress.stopped}
 use Rattle.model.specs.Report.{ranOf}
-use Rattle.model.specs.Claims.{At, Decides, Proposed, Within, shown, ShownProposed, ShownWithin}
-use Rattle.model.proofs.Places.{settled}
+use Rattle.model.specs.Claims.{At, Decides, Proposed, Within, Counted, movesIn, latesIn, Decision, shown, ShownProposed, ShownWithin}
+use Rattle.model.proofs.Places.{timedDecision, settled}
 use Rattle.model.proofs.RunLaws.{follow-same, run-going}
 use Rattle.model.proofs.SetupSays.{setup-sound, setup-starts, run-said}
-use Rattle.model.proofs.Consequences.{Point, decision-proposed, plain-bound, fast-bound, shown-exclusion, shown-agreement, shown-proposed, shown-done}
+use Rattle.model.proofs.Consequences.{Point, decision-proposed, plain-bound, fast-bound, shown-exclusion, shown-agreement, shown-proposed}
+use Rattle.model.proofs.Consequences.{shown-undecided, shown-decided, shown-done}
+use Rattle.model.proofs.Counts.{run-counts}
 use Rattle.model.proofs.Later.{decided-stays}
 use Rattle.model.proofs.Shown.{run-stopped-after, accepted-goes, shows}
 
@@ -47,19 +52,30 @@ point {most} {trace} {k} at =
     }
 
 -- the start byte of row j
-start-byte : {most : ℕ} {trace : List ℕ} {k : ℕ} {s : State} → At most trace k s → (j : ℕ) → j < byte 3 trace → getD (places most (startBytes trace)) j 0 ≡ byte (8 + j) trace
+start-byte : {most : ℕ} {trace : List ℕ} {k : ℕ} {s : State} → At most trace k s → (j : ℕ) → j < byte 3 trace
+    → getD (places most (startBytes trace)) j 0 ≡ byte (8 + j) trace
 start-byte {most} {trace} at j h = place-at trace (setup-said most trace (at .setup) .head .whole) most j h
 
-pub proposed-there : {most : ℕ} {trace : List ℕ} {k : ℕ} {s : State} → At most trace k s → (j : ℕ) → T (settled (rowAt s j .local .place)) → Proposed trace s (rowAt s j .local .decided)
+pub proposed-there : {most : ℕ} {trace : List ℕ} {k : ℕ} {s : State} → At most trace k s → (j : ℕ) → T (settled (rowAt s j .local .place))
+    → Proposed trace s (rowAt s j .local .decided)
 proposed-there at j a =
     let p = decision-proposed (point at) j a in
     record { who = p .0; among = p .1; proposed = sym (start-byte at (p .0) (p .1)) ∙ p .2; moved = p .3 }
 
-pub stays-decided : {most : ℕ} {trace : List ℕ} {j k : ℕ} {s t : State} → At most trace j s → At most trace k t → j ≤ k → (i v : ℕ) → Decides s i v → Decides t i v
+pub stays-decided : {most : ℕ} {trace : List ℕ} {j k : ℕ} {s t : State} → At most trace j s → At most trace k t → j ≤ k → (i v : ℕ) → Decides s i v
+    → Decides t i v
 stays-decided {most} {trace} {j} {k} at at′ h i v a =
     let p = point at in
     decided-stays (shape trace) (p .sound) _ (p .starts) (restOf trace) i v j
     (λ s e. subst (λ (x : State). Decides x i v) (follow-same _ _ j (at .led) e) a) k h (at′ .led)
+
+-- kinds 2 and 3 decide by the timed register
+decision-timed : (kind : ℕ) → (2 ≤ kind) × (kind ≤ 3) → T (timedDecision (routineOf (kindOf kind)))
+decision-timed kind h = by (ℕ-discrete kind 2)
+  where
+    by : Dec (kind ≡ 2) → T (timedDecision (routineOf (kindOf kind)))
+    by (yes e) = rw e tt
+    by (no n) = let three : kind ≡ 3 = omega (arith, h .0, h .1) in rw three tt
 
 -- THE REPORT of an accepted run
 module _ (most : ℕ) (trace old : List ℕ) (bytes : Bytes trace) (accepted : ranOf most trace old .outcome .number ≡ 0) where
@@ -76,23 +92,50 @@ module _ (most : ℕ) (trace old : List ℕ) (bytes : Bytes trace) (accepted : r
         let y = shows most trace old (end .1) j g in
         shown-exclusion (point at-end) i j (sym (x .place) ∙ a) (sym (y .place) ∙ b) (sym (x .figure) ∙ e ∙ y .figure)
 
-    pub rows-agree : shown most trace old i 0 ≡ 8 → shown most trace old j 0 ≡ 8 → shown most trace old i 1 ≡ shown most trace old j 1
-    rows-agree a b =
+  -- of a decision
+  module _ (kind : Decision trace) where
+    abbrev timed : T (timedDecision (routine (shape trace)))
+    timed = decision-timed (byte 2 trace) kind
+
+    module _ (j : ℕ) (h : j < byte 3 trace) where
+      pub row-proposed : shown most trace old j 1 ≢ 0 → ShownProposed most trace old j
+      row-proposed a =
+          let x = shows most trace old (end .1) j h in
+          let p = shown-proposed (point at-end) timed j (λ z. a (x .figure ∙ z)) in
+          record {
+            who = p .0;
+            among = p .1;
+            proposed = sym (start-byte at-end (p .0) (p .1)) ∙ p .2 ∙ sym (x .figure);
+            moved = rw (shows most trace old (end .1) (p .0) (p .1) .moves) (p .3);
+          }
+
+      pub row-undecided : shown most trace old j 0 ≢ 8 → shown most trace old j 0 ≢ 9 → shown most trace old j 1 ≡ 0
+      row-undecided a b =
+          let x = shows most trace old (end .1) j h in
+          x .figure ∙ shown-undecided (point at-end) timed j (λ z. a (x .place ∙ z)) (λ z. b (x .place ∙ z))
+
+      pub row-decided : shown most trace old j 0 ≡ 8 → shown most trace old j 1 ≢ 0
+      row-decided a z =
+          let x = shows most trace old (end .1) j h in
+          shown-decided (point at-end) timed j (sym (x .place) ∙ a) (sym (x .figure) ∙ z)
+
+    pub rows-agree : (i j : ℕ) → i < byte 3 trace → j < byte 3 trace → shown most trace old i 1 ≢ 0 → shown most trace old j 1 ≢ 0
+        → shown most trace old i 1 ≡ shown most trace old j 1
+    rows-agree i j h g a b =
         let x = shows most trace old (end .1) i h in
         let y = shows most trace old (end .1) j g in
-        x .figure ∙ shown-agreement (point at-end) i j (sym (x .place) ∙ a) (sym (y .place) ∙ b) ∙ sym (y .figure)
+        x .figure ∙ shown-agreement (point at-end) timed i j (λ z. a (x .figure ∙ z)) (λ z. b (y .figure ∙ z)) ∙ sym (y .figure)
 
   module _ (j : ℕ) (h : j < byte 3 trace) where
-    pub row-proposed : shown most trace old j 0 ≡ 8 → ShownProposed most trace old j
-    row-proposed a =
-        let x = shows most trace old (end .1) j h in
-        let p = shown-proposed (point at-end) j (sym (x .place) ∙ a) in
-        record {
-          who = p .0;
-          among = p .1;
-          proposed = sym (start-byte at-end (p .0) (p .1)) ∙ p .2 ∙ sym (x .figure);
-          moved = rw (shows most trace old (end .1) (p .0) (p .1) .moves) (p .3);
-        }
+    -- the counts
+    counted-there : Counted (shape trace) (startOf most trace) (restOf trace) (records (restOf trace)) j (rowAt (end .0) j)
+    counted-there = run-counts most trace (length old) bytes (end .1) j
+
+    pub row-moves : shown most trace old j 2 ≡ movesIn trace j (records (restOf trace))
+    row-moves = shows most trace old (end .1) j h .moves ∙ counted-there .moves
+
+    pub row-lates : shown most trace old j 3 ≡ latesIn most trace j (records (restOf trace))
+    row-lates = shows most trace old (end .1) j h .lates ∙ counted-there .lates
 
     row-within : (bound : ℕ) → Within bound (rowAt (end .0) j) → ShownWithin bound most trace old j
     row-within bound w =

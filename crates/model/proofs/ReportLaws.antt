@@ -33,8 +33,8 @@ module _ (κ : Routine) where
       ≡ take at l ++ (line κ r ++ drop (at + lineWidth) l)
   unfolding line
   line-stored r at l h =
-      rw (add-one, add-two, add-three)
-      (sets-eq (shownPlace r ∷ figureOf κ r ∷ r .moves ∷ r .lates ∷ []) l at h ∙ append-assoc (take at l) (shownPlace r ∷ figureOf κ r ∷ r .moves ∷ r .lates ∷ []) (drop (at + lineWidth) l))
+      let new : List ℕ = line κ r in
+      rw (add-one, add-two, add-three) (sets-eq new l at h ∙ append-assoc (take at l) new (drop (at + lineWidth) l))
 
   pub length-lines : (rows : List Row) (k : ℕ) → length (lines κ rows k) ≡ k * lineWidth
   unfolding line lines
@@ -47,11 +47,14 @@ module _ (κ : Routine) where
   unfolding lines
   lines-more rows j old now e =
       let L = lines κ rows j in
-      let n : length L ≡ j * lineWidth = length-lines rows j in
-      let m : length (L ++ line κ (getD rows j blank)) ≡ j * lineWidth + lineWidth = sym (ap length (ap (lines κ rows) (add-one j))) ∙ length-lines rows (j + 1) ∙ omega arith in
-      let front : take (j * lineWidth) now ≡ L = ap (take (j * lineWidth)) e ∙ take-at L (drop (length L) old) (j * lineWidth) n in
-      let seam : drop (j * lineWidth) now ≡ drop (j * lineWidth) old = ap (drop (j * lineWidth)) e ∙ drop-at L (drop (length L) old) (j * lineWidth) n ∙ ap (λ (i : ℕ). drop i old) n in
-      let back : drop (j * lineWidth + lineWidth) now ≡ drop (j * lineWidth + lineWidth) old = sym (drop-drop lineWidth (j * lineWidth) now) ∙ ap (drop lineWidth) seam ∙ drop-drop lineWidth (j * lineWidth) old in
+      let at : ℕ = j * lineWidth in
+      let n : length L ≡ at = length-lines rows j in
+      let m : length (L ++ line κ (getD rows j blank)) ≡ at + lineWidth =
+      sym (ap length (ap (lines κ rows) (add-one j))) ∙ length-lines rows (j + 1) ∙ omega arith in
+      let front : take at now ≡ L = ap (take at) e ∙ take-at L (drop (length L) old) at n in
+      let seam : drop at now ≡ drop at old = ap (drop at) e ∙ drop-at L (drop (length L) old) at n ∙ ap (λ (i : ℕ). drop i old) n in
+      let back : drop (at + lineWidth) now ≡ drop (at + lineWidth) old =
+      sym (drop-drop lineWidth at now) ∙ ap (drop lineWidth) seam ∙ drop-drop lineWidth at old in
       rw (add-one)
       (ap₂ (λ (x y : List ℕ). x ++ (line κ (getD rows j blank) ++ y)) front back
       ∙ sym (append-assoc L (line κ (getD rows j blank)) (drop (j * lineWidth + lineWidth) old))
@@ -98,8 +101,10 @@ module _ (most : ℕ) (trace old : List ℕ) where
       ran-long h = refused-as 7 (rw (set, le-ltb (length old) (lineWidth * byte 3 trace) wide, lt-ltb (8 * mostSteps) (length (restOf trace)) h))
 
       -- and then the records
-      pub ran-on : length (restOf trace) ≤ 8 * mostSteps → ranBy (shape trace) (restOf trace) old (reached most trace (records (restOf trace))) ≡ ranOf most trace old
+      pub ran-on : length (restOf trace) ≤ 8 * mostSteps
+          → ranBy (shape trace) (restOf trace) old (reached most trace (records (restOf trace))) ≡ ranOf most trace old
       unfolding runRefusal ranOf
       ran-on h =
-          let accepted : runRefusal most trace (length old) ≡ 0 = rw (set, le-ltb (length old) (lineWidth * byte 3 trace) wide, le-ltb (8 * mostSteps) (length (restOf trace)) h) in
+          let accepted : runRefusal most trace (length old) ≡ 0 =
+          rw (set, le-ltb (length old) (lineWidth * byte 3 trace) wide, le-ltb (8 * mostSteps) (length (restOf trace)) h) in
           ap (ranBy (shape trace) (restOf trace) old) (sym (run-follows _ _ _ _ accepted))

@@ -43,7 +43,8 @@ ask-fits κ u so j r ok = go
 
 -- A STATE OF A RUN
 
-pub reach-room : (u : Shape) → Sound u → (xs : List ℕ) → Starts u xs → (rest : List ℕ) (k : ℕ) {s : State} → reach u (fresh u xs) rest k ≡ going s → k < mostSteps
+pub reach-room : (u : Shape) → Sound u → (xs : List ℕ) → Starts u xs → (rest : List ℕ) (k : ℕ) {s : State} → reach u (fresh u xs) rest k ≡ going s
+    → k < mostSteps
     → (j : ℕ) → j < u .count → Room u (rowAt s j)
 reach-room u so xs st rest k {s} e h j below =
     let ok = reach-kept u so xs st rest k e .each j in

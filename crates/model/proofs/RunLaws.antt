@@ -13,7 +13,8 @@ use Rattle.steps.specs.Step.{stepRefusal, stepFields}
 use Rattle.steps.proofs.StepLaws.{step-said}
 use Rattle.model.specs.declared.Shape.{Shape}
 use Rattle.model.specs.declared.State.{State}
-use Rattle.model.specs.Run.{Progress, Progress.going, Progress.stopped, rowOf, after, judge, recordRefusal, Tape, advance, follow, runOn, stepAt, stepTape, reach, records}
+use Rattle.model.specs.Run.{Progress, Progress.going, Progress.stopped, rowOf, after, judge, recordRefusal, Tape, advance, follow, runOn, stepAt}
+use Rattle.model.specs.Run.{stepTape, reach, records}
 use Rattle.model.specs.Run.{restOf, runRefusal, reached, runOf}
 pub use Rattle.model.specs.Run.{recordAt}
 

@@ -1,7 +1,7 @@
 -- Reading a report: an accepted run is one that went on to its end, and the four numbers of row j stand from 4 × j on.
 -- Assumes nothing.
 use Prim.Native.Nat.{ℕ, zero, suc, _+_, _*_, _<_}
-use mathlib.Core.Path.{_≡_, refl, sym, _∙_}
+use mathlib.Core.Path.{_≡_, refl, sym, ap, ap₂, _∙_}
 use mathlib.Core.Logic.{_≢_}
 use mathlib.Core.Bool.{Bool, true, false, cond}
 use mathlib.Core.List.{List, _++_}
@@ -16,6 +16,7 @@ use Rattle.model.specs.declared.Place.{Place}
 use Rattle.model.specs.declared.Shape.{Shape}
 use Rattle.model.specs.declared.Row.{Row}
 use Rattle.model.specs.declared.State.{State}
+use Rattle.model.specs.declared.Outcome.{Outcome}
 use Rattle.model.specs.Routine.{Routine, routine}
 use Rattle.model.specs.Sizes.{lineWidth}
 use Rattle.model.specs.Run.{blank, rowAt, Tape, advance, follow, runOn, restOf, records, shape, runOf, Progress, Progress.going, Progress.stopped}
@@ -96,9 +97,21 @@ accepted-goes most trace old e = by (runOf most trace (length old)) refl e
     by (going s) f z = (s, f)
     by (stopped x j) f z = absurd (run-number _ _ _ _ f z)
 
+-- and one whose outcome is a refusal was refused so
+pub refused-stops : (most : ℕ) (trace old : List ℕ) {x j : ℕ} → ranOf most trace old .outcome ≡ record { number = suc x; at = j }
+    → runOf most trace (length old) ≡ stopped (suc x) j
+unfolding ranOf outcomeOf
+refused-stops most trace old {x} {j} e = by (runOf most trace (length old)) refl e
+  where
+    by : (p : Progress) → runOf most trace (length old) ≡ p → outcomeOf (records (restOf trace)) p ≡ record { number = suc x; at = j }
+        → runOf most trace (length old) ≡ stopped (suc x) j
+    by (going s) f z = absurd (omega (arith, ap (λ (o : Outcome). o .number) z))
+    by (stopped y i) f z = f ∙ ap₂ stopped (ap (λ (o : Outcome). o .number) z) (ap (λ (o : Outcome). o .at) z)
+
 -- THE NUMBERS OF A ROW
 
-pub lines-at : (κ : Routine) (rows : List Row) (n j m : ℕ) → j < n → m < lineWidth → getD (lines κ rows n) (lineWidth * j + m) 0 ≡ getD (line κ (getD rows j blank)) m 0
+pub lines-at : (κ : Routine) (rows : List Row) (n j m : ℕ) → j < n → m < lineWidth
+    → getD (lines κ rows n) (lineWidth * j + m) 0 ≡ getD (line κ (getD rows j blank)) m 0
 unfolding lines
 lines-at κ rows zero j m h l = absurd (omega arith)
 lines-at κ rows (suc n) j m h l = by (decLt j n) (λ g. lines-at κ rows n j m g l)
@@ -130,7 +143,8 @@ pub record Shows (most : ℕ) (trace old : List ℕ) (j : ℕ) (r : Row) : Type 
   pub moves : shown most trace old j 2 ≡ r .moves
   pub lates : shown most trace old j 3 ≡ r .lates
 
-pub shows : (most : ℕ) (trace old : List ℕ) {s : State} → runOf most trace (length old) ≡ going s → (j : ℕ) → j < byte 3 trace → Shows most trace old j (rowAt s j)
+pub shows : (most : ℕ) (trace old : List ℕ) {s : State} → runOf most trace (length old) ≡ going s → (j : ℕ) → j < byte 3 trace
+    → Shows most trace old j (rowAt s j)
 unfolding line
 shows most trace old e j h =
     record {
@@ -161,3 +175,11 @@ decided-shows r e n = by (r .crashed) n
     by : (b : Bool) → cond b 9 (shownOf (r .local .place)) ≢ 9 → cond b 9 (shownOf (r .local .place)) ≡ 8
     by true q = absurd (q refl)
     by false q = rw e
+
+-- and one that shows neither has not decided
+pub neither-shows : (r : Row) → shownPlace r ≢ 8 → shownPlace r ≢ 9 → r .local .place ≢ Place.Decided
+neither-shows r n m e = by (r .crashed) n m
+  where
+    by : (b : Bool) → cond b 9 (shownOf (r .local .place)) ≢ 8 → cond b 9 (shownOf (r .local .place)) ≢ 9 → ⊥
+    by true n m = m refl
+    by false n m = n (ap shownOf e)

@@ -50,7 +50,8 @@ module _ (u : Shape) (xs : List ℕ) where
 
     pub filled-done : length xs ≡ mostProcesses → ((i : ℕ) → j ≤ i → i < mostProcesses → u .count ≤ i) → rows ≡ startRows u 0 xs
     filled-done long past =
-        ext-getD blank rows (startRows u 0 xs) (omega (arith, filled .long, length-startRows u 0 xs)) (λ i h. at i (omega (arith, filled .long)) (ltb i j) refl)
+        ext-getD blank rows (startRows u 0 xs) (omega (arith, filled .long, length-startRows u 0 xs))
+        (λ i h. at i (omega (arith, filled .long)) (ltb i j) refl)
       where
         at : (i : ℕ) → i < mostProcesses → (b : Bool) → ltb i j ≡ b → getD rows i blank ≡ getD (startRows u 0 xs) i blank
         at i h true s = rw (getD-startRows u 0 xs i (omega arith), zero-add) (filled .first i (ltb-true i j s))

@@ -15,7 +15,8 @@ use Rattle.model.specs.declared.Row.{Row}
 use Rattle.model.specs.Time.{wakeAt}
 use Rattle.model.specs.Routine.{Routine, routine, to, scans, counted, crash, scanAt, plainNext, fastNext, nextOf}
 use Rattle.model.specs.Claims.{Within}
-use Rattle.model.proofs.Places.{and-left, and-right, everywhere, every-place, imply, differ, timedDecision, inKind, begins, putting, scanning, looking, past, settled, inside, decided-place}
+use Rattle.model.proofs.Places.{and-left, and-right, everywhere, every-place, imply, differ, timedDecision, inKind, begins, putting, scanning}
+use Rattle.model.proofs.Places.{looking, past, settled, inside, decided-place}
 use Rattle.model.proofs.World.{Seat, Commons, World, Clock, Pace, clock, Moves, put, put-all, put-same, slotAt, ownOf}
 use Rattle.model.proofs.DecideSafe.{put-at}
 use Rattle.model.proofs.Keeping.{RowOk}
@@ -76,9 +77,12 @@ abbrev pub HasProposer : ℕ → World → Type 0
 HasProposer n w = w .value 0 ≢ 0 → Proposer n (w .value 0) (w .seat)
 
 -- a seat with the same proposal and no fewer moves
-pub proposer-stays : (n y m : ℕ) (seat : ℕ → Seat) (s : Seat) → ownOf s ≡ ownOf (seat m) → seat m .row .moves ≤ s .row .moves → Proposer n y seat → Proposer n y (put seat m s)
+pub proposer-stays : (n y m : ℕ) (seat : ℕ → Seat) (s : Seat) → ownOf s ≡ ownOf (seat m) → seat m .row .moves ≤ s .row .moves → Proposer n y seat
+    → Proposer n y (put seat m s)
 proposer-stays n y m seat s e h p =
-    let q = put-all (λ i x. (ownOf x ≡ ownOf (seat i)) × (seat i .row .moves ≤ x .row .moves)) {f = seat} {i = m} {a = s} (e, h) (λ i o. (refl, omega arith)) (p .who) in
+    let q =
+    put-all (λ i x. (ownOf x ≡ ownOf (seat i)) × (seat i .row .moves ≤ x .row .moves)) {f = seat} {i = m} {a = s} (e, h) (λ i o. (refl, omega arith))
+    (p .who) in
     record { who = p .who; among = p .among; proposed = q .0 ∙ p .proposed; active = omega (arith, q .1, p .active) }
 
 pub proposed-along : (c : Pace) (u : Shape) → T (timedDecision (routine u)) → Along c u (HasProposer (u .count))
@@ -91,7 +95,8 @@ proposed-along c u n =
       on-crash = λ w m t old z. proposer-stays (u .count) _ m (w .seat) _ refl (omega arith) (old z);
     }
   where
-    go : (w : World) (m : ℕ) {y : ℕ} → m < u .count → HasProposer (u .count) w → (s : Seat) → ownOf s ≡ ownOf (w .seat m) → w .seat m .row .moves < s .row .moves
+    go : (w : World) (m : ℕ) {y : ℕ} → m < u .count → HasProposer (u .count) w → (s : Seat) → ownOf s ≡ ownOf (w .seat m)
+        → w .seat m .row .moves < s .row .moves
         → From w m y → y ≢ 0 → Proposer (u .count) y (put (w .seat) m s)
     go w m h old s e g (same q) z = rw q (proposer-stays (u .count) _ m (w .seat) s e (omega arith) (old (rw q at z)))
     go w m h old s e g (mine q) z =
@@ -167,7 +172,8 @@ module _ (k : Clock) (w : World) (m t : ℕ) (dg : Deciding (w .seat m .row)) (l
   written : {x : ℕ} → put (w .value) (slotAt (w .seat m)) (ownOf (w .seat m)) 0 ≡ 0 → x ≡ 0
   written e = absurd (dg .real (sym (put-at (w .value) (slotAt (w .seat m)) (ownOf (w .seat m)) (dg .slot)) ∙ e))
 
-  plain-cap : {p : Place} {b : Bool} {x : ℕ} {v : ℕ → ℕ} {g : Commons} {d : ℕ} → Moves k w m t p b x v g d → (T (putting p) → l ≡ b) → T (inKind Routine.Plain p)
+  plain-cap : {p : Place} {b : Bool} {x : ℕ} {v : ℕ → ℕ} {g : Commons} {d : ℕ} → Moves k w m t p b x v g d → (T (putting p) → l ≡ b)
+      → T (inKind Routine.Plain p)
       → Most (0 + plainMost p) 0 (looking p) (w .value 0) (w .seat m .row .moves) (w .seat m .row .lates)
       → PlainAt (plainNext p b x u (w .seat m .row .local) .place) (v 0)
   plain-cap Moves.leaves q o c = absurd o
@@ -213,7 +219,8 @@ module _ (k : Clock) (size : ℕ) (w : World) (m t : ℕ) (dg : Deciding (w .sea
       → w .seat m .row .moves + 1 ≤ 2 * (w .seat m .row .lates + cond l 1 0) + 4 + size → FastAt (scanAt size s (w .seat m .row .local)) (w .value 0)
   scan-cap s c total = go (leb s size) refl
     where
-      go : (y : Bool) → leb s size ≡ y → FastAt (cond y (scans s (to Place.Scan (w .seat m .row .local))) (to Place.Check (w .seat m .row .local))) (w .value 0)
+      go : (y : Bool) → leb s size ≡ y
+          → FastAt (cond y (scans s (to Place.Scan (w .seat m .row .local))) (to Place.Check (w .seat m .row .local))) (w .value 0)
       go true e =
           let z = scan-total size (ownOf (w .seat m)) s _ _ small (leb-true s size e) c in
           record { most = elsewhere (omega arith); scans = λ x. c }
@@ -261,8 +268,10 @@ module _ (k : Clock) (size : ℕ) (w : World) (m t : ℕ) (dg : Deciding (w .sea
       (record { skips = e; beyond = λ g. omega (arith, z .beyond (omega arith)); before = λ g. omega (arith, z .before (omega arith)) }) (omega arith))
   fast-cap (Moves.halts h) q o c = record { most = elsewhere (omega (arith, c .most .all)); scans = λ x. absurd x }
 
-cap-moves : (c : Pace) (κ : Routine) (u : Shape) (w : World) (m t : ℕ) (l : Bool) {p : Place} {b : Bool} {x : ℕ} {v : ℕ → ℕ} {g : Commons} {d : ℕ} → m < u .count
-    → T (timedDecision κ) → RowOk κ u m (w .seat m .row) → w .seat m .row .local .place ≡ p → (T (putting p) → l ≡ b) → Moves (clock c (u .delta)) w m t p b x v g d
+cap-moves : (c : Pace) (κ : Routine) (u : Shape) (w : World) (m t : ℕ) (l : Bool) {p : Place} {b : Bool} {x : ℕ} {v : ℕ → ℕ} {g : Commons} {d : ℕ}
+    → m < u .count
+    → T (timedDecision κ) → RowOk κ u m (w .seat m .row) → w .seat m .row .local .place ≡ p → (T (putting p) → l ≡ b)
+    → Moves (clock c (u .delta)) w m t p b x v g d
     → Cap κ u (w .value 0) (w .seat m .row)
     → Cap κ u (v 0) (counted l (nextOf κ u (ownOf (w .seat m)) p b x (wakeAt (u .delta) t) (w .seat m .row .local)) (w .seat m .row))
 cap-moves c (Routine.Lock how) u w m t l h n ok e q rule cp = tt
@@ -297,7 +306,9 @@ capped-along c u n =
           put-all {A = Seat} (λ i y. Cap (routine u) u (v 0) (y .row)) (cap-moves c (routine u) u w m t l h n ok e q rule (old m))
           (λ i o. cap-stays (routine u) u (w .value 0) (v 0) (w .seat i .row) (still-filled (dg .real) y) (old i));
       on-crash =
-          λ w m t old. put-all {A = Seat} (λ i y. Cap (routine u) u (w .value 0) (y .row)) (cap-crash (routine u) u (w .value 0) (w .seat m .row) (old m)) (λ i o. old i);
+          λ w m t old.
+          put-all {A = Seat} (λ i y. Cap (routine u) u (w .value 0) (y .row)) (cap-crash (routine u) u (w .value 0) (w .seat m .row) (old m))
+          (λ i o. old i);
     }
 
 -- before the first move

@@ -86,7 +86,8 @@ others s i t sh (Ask.Raise v) o j n = refl
 others s i t sh (Ask.Peek v) o j n = refl
 
 -- the process keeps its slot when it finds it empty and when it wins it
-keeps-slot : (κ : Routine) (u : Shape) (n v w : ℕ) (x : Local) → (nextOf κ u n Place.Look true v w x .slot ≡ x .slot) × (nextOf κ u n Place.Check true v w x .slot ≡ x .slot)
+keeps-slot : (κ : Routine) (u : Shape) (n v w : ℕ) (x : Local)
+    → (nextOf κ u n Place.Look true v w x .slot ≡ x .slot) × (nextOf κ u n Place.Check true v w x .slot ≡ x .slot)
 keeps-slot (Routine.Lock how) u n v w x = (refl, refl)
 keeps-slot Routine.Plain u n v w x = (refl, refl)
 keeps-slot Routine.Fast u n v w x = (refl, refl)
@@ -131,7 +132,8 @@ module _ (k : Clock) (u : Shape) (s : State) (i : ProcessNumber) (t : ℕ) (sh :
   in-values = omega (arith, sh .values, sh .slots (indexOf i))
 
   -- the process's own deadline, where it keeps its slot
-  set-here : (x : ℕ) (c : SlotNumber) → c ≡ rowOf s i .local .slot → getD (set (s .bank .deadlines) (pairOf i (rowOf s i .local .slot)) x) (indexOf i * 8 + c .0) 0 ≡ x
+  set-here : (x : ℕ) (c : SlotNumber) → c ≡ rowOf s i .local .slot
+      → getD (set (s .bank .deadlines) (pairOf i (rowOf s i .local .slot)) x) (indexOf i * 8 + c .0) 0 ≡ x
   set-here x c q = rw q (getD-set-same (s .bank .deadlines) (pairOf i (rowOf s i .local .slot)) x 0 in-pairs)
 
   due-is : due t (u .delta) ≡ t + k .delta
@@ -166,7 +168,8 @@ module _ (k : Clock) (u : Shape) (s : State) (i : ProcessNumber) (t : ℕ) (sh :
       }
 
   -- where a flag is raised
-  raising : (f f′ : ℕ) (p : Place) (b : Bool) (n : ℕ) → told p (rowOf s i) (answer p) ≡ b → AskFits (askAt p (u .delta) (rowOf s i)) → bank-after p .values ≡ s .bank .values
+  raising : (f f′ : ℕ) (p : Place) (b : Bool) (n : ℕ) → told p (rowOf s i) (answer p) ≡ b → AskFits (askAt p (u .delta) (rowOf s i))
+      → bank-after p .values ≡ s .bank .values
       → sharedAfter (s .shared) (askAt p (u .delta) (rowOf s i)) ≡ record { flags = set (s .shared .flags) n true } → n ≤ mostSlots
       → Moves k (view f s) (indexOf i) t p b (answer p .value) (view f s .value) (raise (view f s .shared) n) (deadline-after p b) → Seen f f′ p b
   unfolding moveAt
@@ -184,7 +187,9 @@ module _ (k : Clock) (u : Shape) (s : State) (i : ProcessNumber) (t : ℕ) (sh :
   pub sees : (f f′ : ℕ) (p : Place) (b : Bool) → told p (rowOf s i) (answer p) ≡ b → Mobile p → AskFits (askAt p (u .delta) (rowOf s i)) → Seen f f′ p b
   unfolding moveAt afterRead afterWrite
   sees f f′ Place.Rest b e h o = plainly f f′ Place.Rest b e o refl refl Moves.leaves
-  sees f f′ Place.Look true e h o = plainly f f′ Place.Look true e o refl refl (Moves.finds (eqb-true _ _ e) (set-here (due t (u .delta)) _ (keeps-slot (routine u) u _ _ _ _ .0) ∙ due-is))
+  sees f f′ Place.Look true e h o =
+      plainly f f′ Place.Look true e o refl refl
+      (Moves.finds (eqb-true _ _ e) (set-here (due t (u .delta)) _ (keeps-slot (routine u) u _ _ _ _ .0) ∙ due-is))
   sees f f′ Place.Look false e h o = plainly f f′ Place.Look false e o refl refl (Moves.meets (eqb-false _ _ e))
   sees f f′ Place.Put true e h o = plainly f f′ Place.Put true e o (rw e) refl Moves.fails
   sees f f′ Place.Put false e h o =
@@ -192,10 +197,14 @@ module _ (k : Clock) (u : Shape) (s : State) (i : ProcessNumber) (t : ℕ) (sh :
         v = put (view f s .value) (rowOf s i .local .slot .0) (rowOf s i .own);
         g = view f s .shared;
         rule = Moves.stores (ltb-false (deadlineAt (s .bank) i (rowOf s i .local .slot)) t e);
-        looks = world-is _ _ _ _ _ _ f′ (seat-path Place.Put false e o) (rw e (getD-put (s .bank .values) (rowOf s i .local .slot .0) (rowOf s i .own) 0 in-values)) refl;
+        looks =
+            world-is _ _ _ _ _ _ f′ (seat-path Place.Put false e o)
+            (rw e (getD-put (s .bank .values) (rowOf s i .local .slot .0) (rowOf s i .own) 0 in-values)) refl;
       }
   sees f f′ Place.Wait b e h o = plainly f f′ Place.Wait b e o refl refl Moves.pauses
-  sees f f′ Place.Check true e h o = plainly f f′ Place.Check true e o refl refl (Moves.knows (eqb-true _ _ e) (set-here unlimited _ (keeps-slot (routine u) u _ _ _ _ .1)))
+  sees f f′ Place.Check true e h o =
+      plainly f f′ Place.Check true e o refl refl
+      (Moves.knows (eqb-true _ _ e) (set-here unlimited _ (keeps-slot (routine u) u _ _ _ _ .1)))
   sees f f′ Place.Check false e h o = plainly f f′ Place.Check false e o refl refl (Moves.learns (eqb-false _ _ e))
   sees f f′ Place.Critical b e h o = leave (lateAt (s .bank) i (rowOf s i .local .slot) t) refl
     where
@@ -206,7 +215,9 @@ module _ (k : Clock) (u : Shape) (s : State) (i : ProcessNumber) (t : ℕ) (sh :
             v = put (view f s .value) (rowOf s i .local .slot .0) 0;
             g = view f s .shared;
             rule = Moves.clears (ltb-false (deadlineAt (s .bank) i (rowOf s i .local .slot)) t q);
-            looks = world-is _ _ _ _ _ _ f′ (seat-path Place.Critical b e o) (rw q (getD-put (s .bank .values) (rowOf s i .local .slot .0) 0 0 in-values)) refl;
+            looks =
+                world-is _ _ _ _ _ _ f′ (seat-path Place.Critical b e o)
+                (rw q (getD-put (s .bank .values) (rowOf s i .local .slot .0) 0 0 in-values)) refl;
           }
   sees f f′ Place.Flag b e h o = raising f f′ Place.Flag b (rowOf s i .own) e o refl refl o Moves.raises
   sees f f′ Place.Scan true e h o = plainly f f′ Place.Scan true e o refl refl (Moves.passes (bit-clear _ e))

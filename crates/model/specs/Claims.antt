@@ -4,19 +4,22 @@ use mathlib.Core.Path.{_≡_}
 use mathlib.Core.Logic.{_≢_}
 use mathlib.Core.Bool.{false}
 use mathlib.Core.List.{List}
-use lib.ListN.{getD}
+use lib.ListN.{length, take, getD}
 use Rattle.terms.specs.declared.SlotNumber.{SlotNumber}
 use Rattle.terms.specs.Numbers.{processOf}
+use Rattle.terms.specs.Overlay.{overlay}
 use Rattle.records.specs.Record.{byte}
 use Rattle.setups.specs.Setup.{setupRefusal}
 use Rattle.model.specs.declared.Place.{Place}
+use Rattle.model.specs.declared.Shape.{Shape}
 use Rattle.model.specs.declared.Row.{Row}
 use Rattle.model.specs.declared.State.{State}
 use Rattle.model.specs.Bounds.{Bytes}
+use Rattle.model.specs.Routine.{routine}
 use Rattle.model.specs.Sizes.{lineWidth}
-use Rattle.model.specs.Run.{rowAt, shape, restOf, startOf, reached, Progress.going}
+use Rattle.model.specs.Run.{rowAt, shape, restOf, startOf, reached, runOf, Progress.going}
 use Rattle.model.specs.Counts.{movesOf, latesOf}
-use Rattle.model.specs.Report.{ranOf}
+use Rattle.model.specs.Report.{lines, ranOf}
 
 -- The state s after the first k records of a trace of up to `most` processes, where the setup and those records were accepted: every point of an
 -- accepted run, its end, and the last state of a run that was refused further on.
@@ -55,11 +58,33 @@ movesIn trace j k = movesOf (restOf trace) (processOf (j + 1)) k
 abbrev pub latesIn : ℕ → List ℕ → ℕ → ℕ → ℕ
 latesIn most trace j k = latesOf (shape trace) (startOf most trace) (restOf trace) (processOf (j + 1)) k
 
+-- row j, of a run that begins with the state x, after the first k records of these bytes: its moves and late writes are counts of those records
+pub record Counted (u : Shape) (x : State) (rest : List ℕ) (k j : ℕ) (r : Row) : Type 0 where
+  pub moves : r .moves ≡ movesOf rest (processOf (j + 1)) k
+  pub lates : r .lates ≡ latesOf u x rest (processOf (j + 1)) k
+  pub fewer : r .lates ≤ r .moves
+  pub within : r .moves ≤ k
+
+-- CUT after the first k records
+abbrev pub cutAt : List ℕ → ℕ → List ℕ
+cutAt trace k = take (8 + byte 3 trace + k * 8) trace
+
+-- the whole run has the state s after k records; the trace cut there is accepted, with 0 and k, ends with the state s, and reports it
+pub record CutThere (most : ℕ) (trace old : List ℕ) (k : ℕ) (s : State) : Type 0 where
+  pub whole : reached most trace k ≡ going s
+  pub cut : runOf most (cutAt trace k) (length old) ≡ going s
+  pub outcome : ranOf most (cutAt trace k) old .outcome ≡ record { number = 0; at = k }
+  pub report : ranOf most (cutAt trace k) old .report ≡ overlay (lines (routine (shape trace)) (s .rows) (byte 3 trace)) old
+
 -- THE REPORT of a run: number m of row j (0: place, 1: c or the decided value, 2: moves, 3: late writes)
 abbrev pub shown : ℕ → List ℕ → List ℕ → ℕ → ℕ → ℕ
 shown most trace old j m = getD (ranOf most trace old .report) (lineWidth * j + m) 0
 
--- row j shows the start byte of a row that shows moves
+-- kind 2 or 3
+abbrev pub Decision : List ℕ → Type 0
+Decision trace = (2 ≤ byte 2 trace) × (byte 2 trace ≤ 3)
+
+-- the second number of row j is the start byte of a row that shows moves
 pub record ShownProposed (most : ℕ) (trace old : List ℕ) (j : ℕ) : Type 0 where
   pub who : ℕ
   pub among : who < byte 3 trace

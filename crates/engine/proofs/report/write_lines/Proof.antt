@@ -10,7 +10,7 @@ use Rattle.terms.specs.Overlay.{overlay}
 use Rattle.model.specs.Routine.{routine}
 use Rattle.model.specs.Report.{lines}
 use Rattle.model.proofs.ReportLaws.{lines-more}
-use Rattle.rows.specs.Rows.{Inside, rowsIn}
+use Rattle.rows.specs.Rows.{IsRow, rowsIn}
 use Rattle.rows.proofs.RowsLaws.{row-at}
 use Rattle.engine.proofs.report.write_lines.Statement.{statement}
 use Rattle.engine.proofs.report.write_lines.Tie as tie
@@ -39,7 +39,7 @@ loop-again c =
     let l = turn .before .before in
     let start = l .before .before in
     let rows = now (start .args .rows) in
-    let room : Inside (l .loop .j) = omega (arith, turn .if1 .taken, start .pre .0) in (
+    let room : IsRow (l .loop .j) = omega (arith, turn .if1 .taken, start .pre .0) in (
       omega (arith, turn .if1 .taken),
       search needs,
       c .before .before .write-line .ensures

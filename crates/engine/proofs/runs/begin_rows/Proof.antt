@@ -8,7 +8,7 @@ use denote.Ref.{now}
 use lib.ListN.{length, length-replicate}
 use Rattle.terms.specs.Limits.{mostProcesses}
 use Rattle.model.proofs.StartLaws.{Filled, filled-done}
-use Rattle.rows.specs.Rows.{Inside, Whole, rowsIn}
+use Rattle.rows.specs.Rows.{IsRow, Whole, rowsIn}
 use Rattle.rows.proofs.RowsLaws.{begins-none, begins-more}
 use Rattle.engine.proofs.runs.begin_rows.Statement.{statement}
 use Rattle.engine.proofs.runs.begin_rows.Tie as tie
@@ -33,11 +33,9 @@ loop-again c =
     let l = c .before .before .before .before in
     let a = l .before .args in
     let below = c .before .before .if1 .taken in
-    let room : Inside (l .loop .j) = omega (arith, below, l .before .pre .0) in (
-      omega (arith, below),
-      c .begin .ensures .long ∙ l .loop .inv .1,
-      begins-more (a .shape) (a .t2) (l .loop .j) (l .loop .rows) _ (l .loop .inv .1) (l .loop .inv .2) room below (c .begin .ensures),
-    )
+    let room : IsRow (l .loop .j) = omega (arith, below, l .before .pre .0) in
+    let more = begins-more (a .shape) (a .t2) (l .loop .j) (l .loop .rows) _ (l .loop .inv .1) (l .loop .inv .2) room below (c .begin .ensures) in
+    (omega (arith, below), more .0, more .1)
 
 returns : tie.Need-returns Inv-loop μ-loop
 returns c =

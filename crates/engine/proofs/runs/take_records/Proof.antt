@@ -13,7 +13,7 @@ use Rattle.terms.proofs.Parts.{part-to-end}
 use Rattle.steps.specs.declared.Step.{Step}
 use Rattle.steps.specs.Step.{stepRead}
 use Rattle.model.specs.Bounds.{Room}
-use Rattle.rows.specs.Rows.{Inside, Whole, rowIn}
+use Rattle.rows.specs.Rows.{IsRow, Whole, rowIn}
 use Rattle.engine.specs.Stepped.{Due, Parts, stateIn}
 use Rattle.engine.proofs.WalkLaws.{Going, sets-out, arrives, unread, whole, due, seated, roomy, unfit, lands}
 use Rattle.engine.proofs.runs.take_records.Statement.{statement}
@@ -81,7 +81,7 @@ module _ (c : Accepted) where
   good : Due (step c)
   good = due (l .loop .inv .1) (read c .before .before .loop-test .taken) _ (found (read c)) (c .if1 .left) (start l .pre .1 .0)
 
-  there : Inside (row c)
+  there : IsRow (row c)
   there = seated (l .loop .inv .1) (read c .before .before .loop-test .taken) _ (found (read c)) (c .if1 .left) (start l .pre .1 .0)
 
   room : Room (start l .args .shape) (rowIn (l .loop .rows) (row c))
