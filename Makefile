@@ -7,9 +7,6 @@ SAMPLE = examples/sample.trace
 CARGO  = cargo --quiet --offline
 RUST   = --release --manifest-path rust/Cargo.toml
 
-# where .ci/tools may have put cargo
-export PATH := $(HOME)/.cargo/bin:$(PATH)
-
 .PHONY: run test compare compare-quick bench library program tools fmt clean
 
 run: program
