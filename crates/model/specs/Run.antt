@@ -90,7 +90,7 @@ isMove k = eqb (k .event) 0
 unfoldable pub after : Shape → State → Step → State
 after u s k = cond (isMove k) (move u s (k .process) (k .tick)) (stop s (k .process) (k .tick))
 
--- 13 (below the newest accepted one), 14, 15, 16, of a step of the process with row r
+-- 13 (below the newest accepted one), 14, 15, 16, of a step of the process with row r, in a run of the shape u
 unfoldable pub judge : Shape → Row → ℕ → Step → ℕ
 judge u r newest k =
     refuse 13 (early newest (k .tick))
