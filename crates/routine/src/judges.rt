@@ -24,7 +24,8 @@ fn is_decided(place: Place) -> bool
     }
 }
 
-// What refuses a step of the process in row j. Any step: 13, its tick is below the newest; 14, the process has crashed. A move: 15, it has decided; 16, it still waits. 0: nothing.
+// What refuses a step of the process in row j. Any step: 13, its tick is below the newest; 14, the process has crashed.
+// A move: 15, it has decided; 16, it still waits. 0: nothing.
 pub fn judge(shape: Shape, j: usize, rows: &[u32; NUMBERS], newest: u32, step: Step) -> u32
     requires { ⌜ IsRow j ⌝ }
     ensures { λ no. ⌜ no ≡ Run.judge shape (rowIn (now (rows .entry)) j) newest step ⌝ }

@@ -45,7 +45,7 @@ fn lost(shape: Shape, j: usize, rows: &[u32; NUMBERS]) -> SlotNumber
     requires { ⌜ IsRow j ⌝ }
     ensures { λ c. ⌜ c ≡ slotsOf SlotRule.Ring shape (rowIn (now (rows .entry)) j .local) .lost ⌝ }
 {
-    rows::slot(j, rows)
+    rows::slot(j, rows) // the same
 }
 
 // The scan goes on at value v, or ends past the last one.
@@ -58,7 +58,7 @@ fn scan_at(size: u32, v: u32, j: usize, rows: &mut [u32; NUMBERS])
         rows::scans(v, j, rows);
         return;
     }
-    rows::to(Place::Check, j, rows);
+    rows::to(Place::Check, j, rows); // fig. 8, line 3, none left
 }
 
 // From value v on, its own skipped.
@@ -166,10 +166,11 @@ pub fn check(shape: Shape, v: u32, j: usize, rows: &mut [u32; NUMBERS])
     ensures { λ _. ⌜ Takes shape Place.Check v false j (now (rows .entry)) (now (rows .exit)) ⌝ }
 {
     rows::count(false, j, rows);
+    let own = rows::own(j, rows);
     let kind = shape.kind;
     match kind {
         Kind::Lock => {
-            if v == rows::own(j, rows) {
+            if v == own {
                 rows::to(Place::Critical, j, rows); // fig. 3, line 4
                 return;
             }
@@ -250,5 +251,5 @@ pub fn decided(shape: Shape, j: usize, rows: &mut [u32; NUMBERS])
     requires { ⌜ Room shape (rowIn (now rows) j) ⌝ }
     ensures { λ _. ⌜ Takes shape Place.Decided 0 false j (now (rows .entry)) (now (rows .exit)) ⌝ }
 {
-    rows::count(false, j, rows);
+    rows::count(false, j, rows); // and no write
 }

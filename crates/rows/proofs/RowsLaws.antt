@@ -51,17 +51,21 @@ changed-rows {j} {g} {old} {new} inside whole x =
 
 -- THE START
 
+-- the numbers before a process has begun
+abbrev zeros : List ℕ
+zeros = replicate rowsWidth 0
+
 all-zero : (n i : ℕ) → _≡_ {A = ℕ} (getD (replicate n 0) i 0) 0
 all-zero zero i = refl
 all-zero (suc n) zero = refl
 all-zero (suc n) (suc i) = all-zero n i
 
-zeros-are-blank : (j : ℕ) → rowIn (replicate rowsWidth 0) j ≡ blank
+zeros-are-blank : (j : ℕ) → rowIn zeros j ≡ blank
 unfolding rowIn
-zeros-are-blank j = same-row (numberAt (replicate rowsWidth 0) j) (λ f. 0) (λ f. all-zero rowsWidth (position j f))
+zeros-are-blank j = same-row (numberAt zeros j) (λ f. 0) (λ f. all-zero rowsWidth (position j f))
 
 -- no process has begun
-pub begins-none : (u : Shape) (xs : List ℕ) → Filled u xs 0 (rowsIn (replicate rowsWidth 0))
+pub begins-none : (u : Shape) (xs : List ℕ) → Filled u xs 0 (rowsIn zeros)
 begins-none u xs =
     record {
       long = thirty-two _;
@@ -69,9 +73,9 @@ begins-none u xs =
       others = λ i h. beyond i (ltb i mostProcesses) refl;
     }
   where
-    beyond : (i : ℕ) (b : Bool) → ltb i mostProcesses ≡ b → getD (rowsIn (replicate rowsWidth 0)) i blank ≡ blank
+    beyond : (i : ℕ) (b : Bool) → ltb i mostProcesses ≡ b → getD (rowsIn zeros) i blank ≡ blank
     beyond i true e = row-at _ i (ltb-true i mostProcesses e) ∙ zeros-are-blank i
-    beyond i false e = List·getD-eq-default (rowsIn (replicate rowsWidth 0)) blank {n = i} (rw (thirty-two (replicate rowsWidth 0)) (ltb-false i mostProcesses e))
+    beyond i false e = List·getD-eq-default (rowsIn zeros) blank {n = i} (rw (thirty-two zeros) (ltb-false i mostProcesses e))
 
 -- a row that begins is a blank one, but for place, slot and value
 begins-from-blank : (κ : Routine) (j x : ℕ) → begun (begin κ j x) blank ≡ begin κ j x

@@ -148,7 +148,8 @@ returns-6 c =
     let arm = write .before .before .before .before in
     let p = arm .before .before in
     let a = start p .args in
-    moves-at (a .shape) (a .i) (a .tick) (a .j) (now (a .rows)) _ (bank p) _ (shared p) _ Place.Critical (stands p Place.Critical (arm .enum-told6 .given .1)) _
+    let at = stands p Place.Critical (arm .enum-told6 .given .1) in
+    moves-at (a .shape) (a .i) (a .tick) (a .j) (now (a .rows)) _ (bank p) _ (shared p) _ Place.Critical at _
     (ap (answeredWrite (shared p)) (write .write-granted2 .ensures) ∙ ap (λ (s : SlotNumber). answer p (Ask.Write s 0)) (slot-is p))
     (c .critical .ensures _) refl refl
 

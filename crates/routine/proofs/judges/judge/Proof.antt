@@ -14,23 +14,71 @@ returns c = rw (lt-ltb _ _ (c .if1 .taken))
 
 returns-2 : tie.Need-returns-2
 unfolding judge
-returns-2 c = rw (le-ltb _ _ (c .before .before .if1 .left), sym (c .before .is-crashed .ensures) ∙ c .if2 .taken)
+returns-2 c =
+    let mark = c .before in
+    let timely = mark .before in
+    rw (le-ltb _ _ (timely .if1 .left), sym (mark .is-crashed .ensures) ∙ c .if2 .taken)
 
 returns-3 : tie.Need-returns-3
 unfolding judge
-returns-3 c = rw (le-ltb _ _ (c .before .before .before .before .if1 .left), sym (c .before .before .before .is-crashed .ensures) ∙ c .before .before .if2 .left, ne-eqb _ _ (c .if3 .taken))
+returns-3 c =
+    let up = c .before .before in
+    let mark = up .before in
+    let timely = mark .before in
+    rw (le-ltb _ _ (timely .if1 .left), sym (mark .is-crashed .ensures) ∙ up .if2 .left, ne-eqb _ _ (c .if3 .taken))
 
 returns-4 : tie.Need-returns-4
 unfolding judge
-returns-4 c = rw (le-ltb _ _ (c .before .before .before .before .before .before .before .if1 .left), sym (c .before .before .before .before .before .before .is-crashed .ensures) ∙ c .before .before .before .before .before .if2 .left, eq-eqb _ _ (c .before .before .before .if3 .left), sym (c .before .is-decided .ensures ∙ ap isDecided (c .before .before .place .ensures)) ∙ c .if4 .taken)
+returns-4 c =
+    let asked = c .before in
+    let move = asked .before .before in
+    let up = move .before .before in
+    let mark = up .before in
+    let timely = mark .before in
+    rw (
+      le-ltb _ _ (timely .if1 .left),
+      sym (mark .is-crashed .ensures) ∙ up .if2 .left,
+      eq-eqb _ _ (move .if3 .left),
+      sym (asked .is-decided .ensures ∙ ap isDecided (asked .before .place .ensures)) ∙ c .if4 .taken,
+    )
 
 returns-5 : tie.Need-returns-5
 unfolding judge
-returns-5 c = rw (le-ltb _ _ (c .before .before .before .before .before .before .before .before .before .before .if1 .left), sym (c .before .before .before .before .before .before .before .before .before .is-crashed .ensures) ∙ c .before .before .before .before .before .before .before .before .if2 .left, eq-eqb _ _ (c .before .before .before .before .before .before .if3 .left), sym (c .before .before .before .before .is-decided .ensures ∙ ap isDecided (c .before .before .before .before .before .place .ensures)) ∙ c .before .before .before .if4 .left, ← c .before .before .wake .ensures, lt-ltb _ _ (c .if5 .taken))
+returns-5 c =
+    let waking = c .before .before in
+    let undecided = waking .before in
+    let asked = undecided .before in
+    let move = asked .before .before in
+    let up = move .before .before in
+    let mark = up .before in
+    let timely = mark .before in
+    rw (
+      le-ltb _ _ (timely .if1 .left),
+      sym (mark .is-crashed .ensures) ∙ up .if2 .left,
+      eq-eqb _ _ (move .if3 .left),
+      sym (asked .is-decided .ensures ∙ ap isDecided (asked .before .place .ensures)) ∙ undecided .if4 .left,
+      ← waking .wake .ensures,
+      lt-ltb _ _ (c .if5 .taken),
+    )
 
 returns-6 : tie.Need-returns-6
 unfolding judge
-returns-6 c = rw (le-ltb _ _ (c .before .before .before .before .before .before .before .before .before .before .if1 .left), sym (c .before .before .before .before .before .before .before .before .before .is-crashed .ensures) ∙ c .before .before .before .before .before .before .before .before .if2 .left, eq-eqb _ _ (c .before .before .before .before .before .before .if3 .left), sym (c .before .before .before .before .is-decided .ensures ∙ ap isDecided (c .before .before .before .before .before .place .ensures)) ∙ c .before .before .before .if4 .left, ← c .before .before .wake .ensures, le-ltb _ _ (c .if5 .left))
+returns-6 c =
+    let waking = c .before .before in
+    let undecided = waking .before in
+    let asked = undecided .before in
+    let move = asked .before .before in
+    let up = move .before .before in
+    let mark = up .before in
+    let timely = mark .before in
+    rw (
+      le-ltb _ _ (timely .if1 .left),
+      sym (mark .is-crashed .ensures) ∙ up .if2 .left,
+      eq-eqb _ _ (move .if3 .left),
+      sym (asked .is-decided .ensures ∙ ap isDecided (asked .before .place .ensures)) ∙ undecided .if4 .left,
+      ← waking .wake .ensures,
+      le-ltb _ _ (c .if5 .left),
+    )
 
 pub judge-spec : {M : Type 1} → statement M
 judge-spec =

@@ -12,20 +12,22 @@ use Rattle.routine.proofs.takes.check.Tie as tie
 returns : tie.Need-returns
 returns c w =
     let asked = c .before .before in
-    let lock = asked .before .before .before in
-    let counting = lock .before .before in
+    let lock = asked .before in
+    let own = lock .before .before in
+    let counting = own .before .before in
     let start = counting .before .before in
     let is = start .pre .0 in
     let counted = count-written is false (counting .count .ensures) in
     told-as (also counted (place-written is _ (c .to .ensures)))
-    (λ l. rw (lock .enum-told .given .1, eq-eqb _ _ (asked .if1 .taken ∙ asked .before .own .ensures ∙ ap (λ (r : Row). r .own) (counted .row l))))
+    (λ l. rw (lock .enum-told .given .1, eq-eqb _ _ (asked .if1 .taken ∙ own .own .ensures ∙ ap (λ (r : Row). r .own) (counted .row l))))
 
 returns-2 : tie.Need-returns-2
 returns-2 c w =
     let losing = c .before .before .before .before in
     let asked = losing .before .before in
-    let lock = asked .before .before .before in
-    let counting = lock .before .before in
+    let lock = asked .before in
+    let own = lock .before .before in
+    let counting = own .before .before in
     let start = counting .before .before in
     let is = start .pre .0 in
     let counted = count-written is false (counting .count .ensures) in
@@ -33,13 +35,13 @@ returns-2 c w =
     (λ l. rw (
       losing .lost .ensures ∙ ap (λ (r : Row). r .local .slot) (counted .row l),
       lock .enum-told .given .1,
-      ne-eqb _ _ (λ e. asked .if1 .left (e ∙ sym (asked .before .own .ensures ∙ ap (λ (r : Row). r .own) (counted .row l)))),
+      ne-eqb _ _ (λ e. asked .if1 .left (e ∙ sym (own .own .ensures ∙ ap (λ (r : Row). r .own) (counted .row l)))),
     ))
 
 returns-3 : tie.Need-returns-3
 returns-3 c w =
     let plain = c .before .before .before .before in
-    let counting = plain .before .before in
+    let counting = plain .before .before .before .before in
     let start = counting .before .before in
     let is = start .pre .0 in
     told-as
@@ -50,7 +52,7 @@ returns-3 c w =
 returns-4 : tie.Need-returns-4
 returns-4 c w =
     let fast = c .before .before .before .before in
-    let counting = fast .before .before in
+    let counting = fast .before .before .before .before in
     let start = counting .before .before in
     let is = start .pre .0 in
     told-as
@@ -63,8 +65,8 @@ check-spec =
     tie.close
     (tie.spec
     (λ c κs. search needs)
-    (λ c. search needs)
     (λ c κs. search needs)
+    (λ c. search needs)
     (λ c κs. search needs)
     returns
     (λ c κs. search needs)
