@@ -14,6 +14,11 @@ use Rattle.steps.specs.declared.Step.{Step}
 use Rattle.setups.specs.Setup.{setupRead, setupRest, restStart}
 use Rattle.setups.specs.declared.SetupRead.{SetupRead}
 use Rattle.steps.specs.declared.StepRead.{StepRead}
+use Rattle.model.specs.Report.{Ran}
+
+-- a run: the number of the refusal, the count of accepted steps or the record of the refusal, and the report
+abbrev pub ranOut : ℕ → ℕ → List ℕ → Ran
+ranOut number at report = record { outcome = record { number = number; at = at }; report = report }
 
 -- kind, n, ℓ or b, byte 5 (0 in every accepted setup), Δ
 abbrev pub setupNumbers : Setup → List ℕ

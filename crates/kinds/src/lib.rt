@@ -16,7 +16,13 @@ pub const LAST: u32 = 3;
 pub fn is_bad_kind(last: u32, k: u32) -> bool
     ensures { λ r. ⌜ r ≡ badKind last k ⌝ }
 {
-    k < 1 || last < k
+    if k < 1 {
+        return true;
+    }
+    if last < k {
+        return true;
+    }
+    false
 }
 
 // The kind with the number k. A number that none has gives some kind: `is_bad_kind` tells.

@@ -54,7 +54,8 @@ module _ (refusal : ℕ) (rec before : List ℕ) (r : Written) (after : List ℕ
   pub wrote-refused : (k : ℕ) → refusal ≡ k → (k ≡ 0 → ⊥) → r ≡ record { refusal = k; len = 0 } → after ≡ before → Wrote refusal rec before r after
   wrote-refused k e h a b = record { answer = a ∙ simp (e, if-refused k h); buffer = b ∙ simp (e, if-refused k h) }
 
-  pub wrote-accepted : (n : ℕ) → refusal ≡ 0 → r ≡ record { refusal = 0; len = n } → n ≡ length rec → after ≡ overlay rec before → Wrote refusal rec before r after
+  pub wrote-accepted : (n : ℕ) → refusal ≡ 0 → r ≡ record { refusal = 0; len = n } → n ≡ length rec → after ≡ overlay rec before
+      → Wrote refusal rec before r after
   wrote-accepted n e a l b = record { answer = a ∙ simp (e, l); buffer = b ∙ simp e }
 
   -- what a promise says where its table accepts, where it refuses, and where the answer's number is 0

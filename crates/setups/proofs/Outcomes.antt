@@ -10,6 +10,7 @@ use Rattle.terms.proofs.RefusalLaws.{then-stop, if-refused}
 use Rattle.kinds.specs.Kinds.{kindOf}
 use Rattle.records.specs.Record.{byte}
 use Rattle.setups.specs.Setup.{startRefusal, headRefusal, startBytes, startsOf, places, setupRefusal, setupRead, noSetup}
+use Rattle.setups.specs.declared.Setup.{Setup}
 use Rattle.setups.specs.declared.StartsRead.{StartsRead}
 
 -- where the head refuses with k, where the start bytes do, and where neither does
@@ -25,11 +26,13 @@ module _ (most : ℕ) (s : List ℕ) where
         let no : st .refusal ≡ startRefusal (kindOf (byte 2 s)) (byte 4 s) (byte 5 s) (startBytes s) = ap (λ (x : StartsRead). x .refusal) e in
         simp (head, ← no, if-refused (st .refusal) h)
 
-    pub read-whole : st .refusal ≡ 0
-        → record { refusal = 0; setup = record { kind = byte 2 s; processes = byte 3 s; size = byte 4 s; delta = littleOf (byte 6 s ∷ byte 7 s ∷ []); starts = st .places } }
-        ≡ setupRead most s
+    abbrev whole : Setup
+    whole = record { kind = byte 2 s; processes = byte 3 s; size = byte 4 s; delta = littleOf (byte 6 s ∷ byte 7 s ∷ []); starts = st .places }
+
+    pub read-whole : st .refusal ≡ 0 → record { refusal = 0; setup = whole } ≡ setupRead most s
     unfolding setupRead setupRefusal
     read-whole h =
         let no : startRefusal (kindOf (byte 2 s)) (byte 4 s) (byte 5 s) (startBytes s) ≡ 0 = sym (ap (λ (x : StartsRead). x .refusal) e) ∙ h in
-        let laid : st .places ≡ places most (startBytes s) = ap (λ (x : StartsRead). x .places) e ∙ ap (λ (k : ℕ). ifAccepted k (places most (startBytes s)) (replicate most 0)) no in
+        let answered = ap (λ (k : ℕ). ifAccepted k (places most (startBytes s)) (replicate most 0)) no in
+        let laid : st .places ≡ places most (startBytes s) = ap (λ (x : StartsRead). x .places) e ∙ answered in
         simp (head, no, laid)

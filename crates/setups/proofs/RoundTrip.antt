@@ -9,17 +9,18 @@ use native.Mathlib.Omega.{arith}
 use lib.ListN.{length, take, drop, replicate, length-append}
 use lib.Seq.{take-append-seam, drop-append-seam, take-add, take-at, drop-drop}
 use Rattle.terms.specs.Little.{littleOf, AllBytes}
-use Rattle.terms.specs.Refusal.{anyFrom}
 use Rattle.terms.proofs.LittleLaws.{little-of-bytes, little-bytes-of}
 use Rattle.terms.proofs.Parts.{elements, take-elements}
 use Rattle.kinds.specs.Kinds.{kindOf}
 use Rattle.records.specs.declared.Written.{Written}
-use Rattle.records.specs.Record.{byte, Wrote}
+use Rattle.records.specs.Record.{byte}
 use Rattle.records.proofs.RecordLaws.{byte-small, wrote-whole, wrote-said}
 use Rattle.setups.specs.declared.Setup.{Setup}
 use Rattle.setups.specs.declared.SetupRead.{SetupRead}
-use Rattle.setups.specs.Setup.{badStart, setupRefusal, setupRead, setupRest, restStart, setupHead, setupBytes, setupWriteRefusal, setupFields, startBytes, places}
-use Rattle.setups.proofs.SetupLaws.{Limits, limits-size, Head, AcceptedSetup, setup-said, said-setup, setup-accepted, rest-accepted, start-count, WritableSetup, setup-write-said, said-setup-write}
+use Rattle.setups.specs.Setup.{anyBadStart, setupRefusal, setupRead, setupRest, restStart, setupHead, setupBytes, setupWriteRefusal}
+use Rattle.setups.specs.Setup.{WroteSetup, setupFields, startBytes, places}
+use Rattle.setups.proofs.SetupLaws.{Limits, limits-size, Head, AcceptedSetup, setup-said, said-setup, setup-accepted, rest-accepted}
+use Rattle.setups.proofs.SetupLaws.{start-count, WritableSetup, setup-write-said, said-setup-write}
 
 -- the setup that a writer is given
 abbrev pub given : ℕ → ℕ → ℕ → ℕ → List ℕ → Setup
@@ -37,7 +38,7 @@ module _ (most kind size delta : ℕ) (starts rest : List ℕ) where
   same : startBytes trace ≡ starts
   same = take-append-seam starts rest
 
-  module _ (limits : Limits most kind (length starts) size 0) (good : anyFrom 0 (badStart (kindOf kind) (length starts) size 0) starts ≡ false) where
+  module _ (limits : Limits most kind (length starts) size 0) (good : anyBadStart (kindOf kind) size 0 starts ≡ false) where
     accepted : setupRefusal most trace ≡ 0
     accepted =
         let head : Head most trace = record {
@@ -59,7 +60,7 @@ module _ (most kind size delta : ℕ) (starts rest : List ℕ) where
 
 -- from the writer's own promise, over any buffer
 module _ (most kind size delta : ℕ) (starts before after : List ℕ) (r : Written)
-    (w : Wrote (setupWriteRefusal most kind size starts (length before)) (setupBytes kind size delta starts) before r after)
+    (w : WroteSetup most kind size delta starts before r after)
     (ok : r .refusal ≡ 0) where
   writable : WritableSetup most kind size starts (length before)
   writable = setup-write-said _ kind size starts (length before) (wrote-said _ _ _ _ _ w ok .0)
@@ -106,8 +107,7 @@ module _ (most : ℕ) (s : List ℕ) (bytes : AllBytes s) (ok : setupRefusal mos
   -- from the writer's own promise, over any buffer that has room
   module _ (before after : List ℕ) (r : Written) (room : 8 + byte 3 s ≤ length before)
       (w : let t = setupRead most s .setup in
-      let starts = take (t .processes) (t .starts) in
-      Wrote (setupWriteRefusal most (t .kind) (t .size) starts (length before)) (setupBytes (t .kind) (t .size) (t .delta) starts) before r after) where
+      WroteSetup most (t .kind) (t .size) (t .delta) (take (t .processes) (t .starts)) before r after) where
     -- the number of start bytes is n, and byte 5 is 0
     writes : WritableSetup most (byte 2 s) (byte 4 s) (startBytes s) (length before)
     writes =

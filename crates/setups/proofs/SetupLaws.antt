@@ -12,12 +12,12 @@ use lib.Seq.{getD-take, getD-drop, getD-append-add}
 use lib.Dec.{ltb}
 use Rattle.terms.specs.Limits.{mostSlots}
 use Rattle.terms.specs.Little.{AllBytes}
-use Rattle.terms.specs.Refusal.{anyFrom}
 use Rattle.terms.proofs.RefusalLaws.{if-refused, then-both, passed, refuse-false, both-false, not-outside, inside}
 use Rattle.kinds.specs.declared.Kind.{Kind}
 use Rattle.kinds.specs.Kinds.{lastKind, kindOf}
 use Rattle.records.specs.Record.{byte}
-use Rattle.setups.specs.Setup.{setupMark, outOfLimits, badSize, badStart, setupLimits, headRefusal, startBytes, places, setupFields, noSetup, setupRefusal, setupRead, setupRest, restStart, setupWriteRefusal}
+use Rattle.setups.specs.Setup.{setupMark, outOfLimits, badSize, badStart, anyBadStart, setupLimits, headRefusal, startBytes, places}
+use Rattle.setups.specs.Setup.{setupFields, noSetup, setupRefusal, setupRead, setupRest, restStart, setupWriteRefusal}
 use Rattle.setups.specs.declared.SetupRead.{SetupRead}
 use Rattle.records.proofs.RecordLaws.{marked-said, byte-small, none-bad, all-good}
 
@@ -94,7 +94,7 @@ pub record Head (most : ℕ) (s : List ℕ) : Type 0 where
 
 pub record AcceptedSetup (most : ℕ) (s : List ℕ) : Type 0 where
   pub head : Head most s
-  pub good : anyFrom 0 (badAt s) (startBytes s) ≡ false
+  pub good : anyBadStart (kindOf (byte 2 s)) (byte 4 s) (byte 5 s) (startBytes s) ≡ false
 
 module _ (most : ℕ) (s : List ℕ) where
   pub head-said : headRefusal most s ≡ 0 → Head most s
@@ -193,7 +193,8 @@ module _ (s : List ℕ) (whole : 8 + byte 3 s ≤ length s) where
       ∙ zeros most (n + (j - n))
 
   -- start bytes that are good one by one are good together
-  pub said-starts : ((j : ℕ) → j < byte 3 s → badAt s j (byte (8 + j) s) ≡ false) → anyFrom 0 (badAt s) (startBytes s) ≡ false
+  pub said-starts : ((j : ℕ) → j < byte 3 s → badAt s j (byte (8 + j) s) ≡ false)
+      → anyBadStart (kindOf (byte 2 s)) (byte 4 s) (byte 5 s) (startBytes s) ≡ false
   said-starts h =
       all-good 0 (badAt s) (startBytes s) (λ j inside.
       let below : j < byte 3 s = omega (arith, start-count) in
@@ -214,7 +215,7 @@ delta-small most s h = omega (arith, byte-small s h 6, byte-small s h 7)
 
 pub record WritableSetup (most kind size : ℕ) (starts : List ℕ) (room : ℕ) : Type 0 where
   pub limits : Limits most kind (length starts) size 0
-  pub good : anyFrom 0 (badStart (kindOf kind) (length starts) size 0) starts ≡ false
+  pub good : anyBadStart (kindOf kind) size 0 starts ≡ false
   pub fits : 8 + length starts ≤ room
 
 module _ (most kind size : ℕ) (starts : List ℕ) (room : ℕ) where

@@ -10,7 +10,8 @@ use Rattle.terms.specs.Little.{littleOf, littleBytes}
 use Rattle.terms.specs.Overlay.{overlay}
 use Rattle.kinds.specs.declared.Kind.{Kind}
 use Rattle.kinds.specs.Kinds.{lastKind, badKind, kindOf}
-use Rattle.records.specs.Record.{byte, marked}
+use Rattle.records.specs.declared.Written.{Written}
+use Rattle.records.specs.Record.{byte, marked, Wrote}
 use Rattle.setups.specs.declared.Setup.{Setup}
 use Rattle.setups.specs.declared.SetupRead.{SetupRead}
 use Rattle.setups.specs.declared.StartsRead.{StartsRead}
@@ -29,11 +30,20 @@ badSize Kind.Lock n size spare = outOfLimits size spare
 badSize Kind.Plain n size spare = outOfLimits size spare
 badSize Kind.Fast n size spare = outOfLimits size spare
 
--- c is 0 to ℓ - 1, a proposal 1 to b
+-- a slot is 0 to ℓ - 1, a proposal 1 to b
+abbrev pub noSlot : ℕ → ℕ → Bool
+noSlot size x = leb size x
+
+abbrev pub noProposal : ℕ → ℕ → Bool
+noProposal size x = outside 1 size x
+
 unfoldable pub badStart : Kind → ℕ → ℕ → ℕ → ℕ → ℕ → Bool
-badStart Kind.Lock n size spare j x = leb size x
-badStart Kind.Plain n size spare j x = outside 1 size x
-badStart Kind.Fast n size spare j x = outside 1 size x
+badStart Kind.Lock n size spare j x = noSlot size x
+badStart Kind.Plain n size spare j x = noProposal size x
+badStart Kind.Fast n size spare j x = noProposal size x
+
+abbrev pub anyBadStart : Kind → ℕ → ℕ → List ℕ → Bool
+anyBadStart kind size spare starts = anyFrom 0 (badStart kind (length starts) size spare) starts
 
 -- what the reader and the writer ask alike: 3, 4, 5; and 6
 abbrev pub setupLimits : ℕ → ℕ → ℕ → ℕ → ℕ → ℕ
@@ -43,7 +53,7 @@ setupLimits most kind n size spare =
     then refuse 5 (badSize (kindOf kind) n size spare)
 
 abbrev pub startRefusal : Kind → ℕ → ℕ → List ℕ → ℕ
-startRefusal kind size spare starts = refuse 6 (anyFrom 0 (badStart kind (length starts) size spare) starts)
+startRefusal kind size spare starts = refuse 6 (anyBadStart kind size spare starts)
 
 -- READING
 
@@ -113,3 +123,8 @@ setupWriteRefusal most kind size starts room =
     setupLimits most kind (length starts) size 0
     then startRefusal (kindOf kind) size 0 starts
     then refuse 19 (ltb room (8 + length starts))
+
+-- what the writer answers, and the buffer before and after
+abbrev pub WroteSetup : ℕ → ℕ → ℕ → ℕ → List ℕ → List ℕ → Written → List ℕ → Type 0
+WroteSetup most kind size delta starts before r after =
+    Wrote (setupWriteRefusal most kind size starts (length before)) (setupBytes kind size delta starts) before r after

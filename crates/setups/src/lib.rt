@@ -5,14 +5,16 @@ ghost use Prim.Native.Nat.{_+_, _≤_};
 ghost use lib.ListN.{length};
 ghost use denote.Ref.{ptr};
 ghost use Rattle.terms.specs.Limits.{mostProcesses};
-ghost use Rattle.terms.specs.Refusal.{outside, anyFrom};
-ghost use Rattle.records.specs.Record.{Wrote};
-ghost use Rattle.setups.specs.Setup.{outOfLimits, badSize, badStart, setupLimits, headRefusal, startsOf, noSetup, setupRead, setupRest, restStart, setupBytes, setupWriteRefusal};
+ghost use Rattle.setups.specs.Setup.{outOfLimits, badSize, noProposal, badStart, anyBadStart, setupLimits, headRefusal};
+ghost use Rattle.setups.specs.Setup.{startsOf, noSetup, setupRead, setupRest, restStart, setupWriteRefusal, WroteSetup};
 use kinds::Kind;
 use records::Written;
 use terms::Trace;
 
 const MARK: [u8; 2] = [0x4F, 0x53];
+
+// The places of the start bytes, one for each process that there may be.
+pub const PLACES: usize = Trace::PROCESSES as usize;
 
 // `size` is ℓ in kind 1 and b in the others; `starts` has 0 in the places beyond `processes`.
 pub struct Setup {
@@ -20,7 +22,7 @@ pub struct Setup {
     pub processes: u8,
     pub size: u8,
     pub delta: u16,
-    pub starts: [u8; 32],
+    pub starts: [u8; PLACES],
 }
 
 // A setup, or the number of its refusal with every field 0.
@@ -41,20 +43,16 @@ fn number(x: u8) -> u32
     x as u32
 }
 
-// Whether x is not one of low .. high.
-fn is_outside(low: usize, high: usize, x: usize) -> bool
-    ensures { λ r. ⌜ r ≡ outside low high x ⌝ }
-{
-    x < low || high < x
-}
-
 // BY KIND: 5 and 6
 
 // ℓ or b, and the zero byte.
 fn is_out_of_limits(size: u32, spare: u32) -> bool
     ensures { λ r. ⌜ r ≡ outOfLimits size spare ⌝ }
 {
-    if is_outside(1, Trace::SLOTS as usize, size as usize) {
+    if size < 1 {
+        return true;
+    }
+    if Trace::SLOTS < size {
         return true;
     }
     spare != 0
@@ -71,7 +69,7 @@ fn is_bad_size(kind: Kind, n: usize, size: u32, spare: u32) -> bool
 }
 
 fn is_no_proposal(size: u8, x: u8) -> bool
-    ensures { λ r. ⌜ r ≡ outside 1 size x ⌝ }
+    ensures { λ r. ⌜ r ≡ noProposal size x ⌝ }
 {
     x < 1 || size < x
 }
@@ -95,7 +93,7 @@ fn either(a: bool, b: bool) -> bool
 
 // Whether some byte of s is no start byte. It stops at none, so that many are looked at at once.
 fn any_bad_start(kind: Kind, size: u8, spare: u8, s: &[u8]) -> bool
-    ensures { λ r. ⌜ r ≡ anyFrom 0 (badStart kind (length (now (s .entry))) size spare) (now (s .entry)) ⌝ }
+    ensures { λ r. ⌜ r ≡ anyBadStart kind size spare (now (s .entry)) ⌝ }
 {
     let n = s.len();
     let mut bad = false;
@@ -114,7 +112,10 @@ fn setup_limits(most: u32, kind: u32, n: usize, size: u32, spare: u32) -> u32
     if kinds::is_bad_kind(kinds::LAST, kind) {
         return 3;
     }
-    if is_outside(1, most as usize, n) {
+    if n < 1 {
+        return 4;
+    }
+    if (most as usize) < n {
         return 4;
     }
     if is_bad_size(kinds::kind_of(kind), n, size, spare) {
@@ -155,10 +156,10 @@ fn head_refusal(most: u32, trace: &[u8]) -> u32
     0
 }
 
-// The start bytes in 32 places, once each is in its range.
+// The start bytes in their places, once each is in its range.
 struct StartsRead {
     refusal: u32,
-    places: [u8; 32],
+    places: [u8; PLACES],
 }
 
 fn starts_of(kind: Kind, size: u8, spare: u8, s: &[u8]) -> StartsRead
@@ -168,10 +169,10 @@ fn starts_of(kind: Kind, size: u8, spare: u8, s: &[u8]) -> StartsRead
     if any_bad_start(kind, size, spare, s) {
         return StartsRead {
             refusal: 6,
-            places: [0; 32],
+            places: [0; PLACES],
         };
     }
-    let mut places = [0u8; 32];
+    let mut places = [0u8; PLACES];
     bytes::copy(s, &mut places);
     StartsRead { refusal: 0, places }
 }
@@ -187,7 +188,7 @@ impl SetupRead {
                 processes: 0,
                 size: 0,
                 delta: 0,
-                starts: [0; 32],
+                starts: [0; PLACES],
             },
         }
     }
@@ -257,7 +258,7 @@ fn setup_write_refusal(most: u32, kind: u32, size: u32, starts: &[u8], room: usi
 
 // Writes a setup of as many processes as start bytes are lent, over the buffer's first bytes.
 pub fn write_setup(kind: u32, size: u32, delta: u16, starts: &[u8], buffer: &mut [u8]) -> Written
-    ensures { λ r. ⌜ Wrote (setupWriteRefusal mostProcesses kind size (now (starts .entry)) (length (now (buffer .entry)))) (setupBytes kind size delta (now (starts .entry))) (now (buffer .entry)) r (now (buffer .exit)) ⌝ }
+    ensures { λ r. ⌜ WroteSetup mostProcesses kind size delta (now (starts .entry)) (now (buffer .entry)) r (now (buffer .exit)) ⌝ }
 {
     let no = setup_write_refusal(Trace::PROCESSES, kind, size, starts, buffer.len());
     if no != 0 {

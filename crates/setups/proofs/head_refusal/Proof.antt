@@ -45,7 +45,7 @@ module _ (c : tie.After-setup-limits) where
   so-far =
       let m = at-mark in
       simp (
-        le-ltb _ _ (eight (first-byte m) .if1 .left),
+        le-ltb (length s) 8 (omega (arith, eight (first-byte m) .if1 .left)),
         eq-eqb _ _ (first-byte m .if2 .left),
         eq-eqb _ _ (m .if3 .left),
         c .setup-limits .ensures,
@@ -56,15 +56,18 @@ module _ (c : tie.After-setup-limits) where
       )
 
 returns : tie.Need-returns
-returns c = simp (lt-ltb _ _ (c .if1 .taken))
+returns c = let s = now (c .before .before .args .trace) in simp (lt-ltb (length s) 8 (omega arith))
 
 returns-2 : tie.Need-returns-2
-returns-2 c = simp (le-ltb _ _ (c .before .before .if1 .left), ne-eqb _ _ (c .if2 .taken))
+returns-2 c =
+    let s = now (start (c .before .before) .args .trace) in
+    simp (le-ltb (length s) 8 (omega arith), ne-eqb _ _ (c .if2 .taken))
 
 returns-3 : tie.Need-returns-3
 returns-3 c =
     let m = c .before .before in
-    simp (le-ltb _ _ (eight m .if1 .left), eq-eqb _ _ (m .if2 .left), ne-eqb _ _ (c .if3 .taken))
+    let s = now (start (eight m) .args .trace) in
+    simp (le-ltb (length s) 8 (omega arith), eq-eqb _ _ (m .if2 .left), ne-eqb _ _ (c .if3 .taken))
 
 returns-4 : tie.Need-returns-4
 returns-4 c = simp (so-far (c .before), then-stop _ (c .if4 .taken))

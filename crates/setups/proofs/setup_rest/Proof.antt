@@ -25,7 +25,9 @@ module _ (c : tie.After-wide) where
   accepted = setup-refusal-read _ _ _ (c .before .before .before .read-setup .ensures) ∙ c .before .if1 .left
 
   count : c .wide .result ≡ byte 3 trace
-  count = c .wide .ensures ∙ ap (λ (x : Setup). x .processes) (setup-fields-read _ _ _ (c .before .before .before .read-setup .ensures) (c .before .if1 .left))
+  count =
+      let fields = setup-fields-read _ _ _ (c .before .before .before .read-setup .ensures) (c .before .if1 .left) in
+      c .wide .ensures ∙ ap (λ (x : Setup). x .processes) fields
 
   end : 8 + c .wide .result ≤ length trace
   end = rw count (setup-said _ trace accepted .head .whole)

@@ -8,11 +8,11 @@ use borrow.Author.Tests.{lt-ltb, le-ltb}
 use lib.ListN.{length}
 use denote.Ref.{now}
 use Rattle.terms.specs.Limits.{mostSlots}
-use Rattle.terms.specs.Refusal.{refuse, _then_, anyFrom}
+use Rattle.terms.specs.Refusal.{refuse, _then_}
 use Rattle.terms.proofs.RefusalLaws.{then-stop}
 use Rattle.kinds.specs.declared.Kind.{Kind}
 use Rattle.kinds.specs.Kinds.{kindOf}
-use Rattle.setups.specs.Setup.{badStart, setupLimits, startRefusal, setupWriteRefusal}
+use Rattle.setups.specs.Setup.{anyBadStart, setupLimits, startRefusal, setupWriteRefusal}
 use Rattle.setups.proofs.SetupLaws.{limits-said, limits-size}
 use Rattle.setups.proofs.setup_write_refusal.Statement.{statement}
 use Rattle.setups.proofs.setup_write_refusal.Tie as tie
@@ -44,9 +44,9 @@ module _ (c : tie.After-any-bad-start) where
   abbrev size : ℕ
   size = start past-limits .args .size
 
-  found : anyFrom 0 (badStart (kindOf kind) (length (starts past-limits)) size 0) (starts past-limits) ≡ c .any-bad-start .result
+  found : anyBadStart (kindOf kind) size 0 (starts past-limits) ≡ c .any-bad-start .result
   found =
-      ap (λ (κ : Kind). anyFrom 0 (badStart κ (length (starts past-limits)) size 0) (starts past-limits)) (sym (c .before .kind-of .ensures))
+      ap (λ (κ : Kind). anyBadStart κ size 0 (starts past-limits)) (sym (c .before .kind-of .ensures))
       ∙ sym (c .any-bad-start .ensures)
 
   so-far : (setupLimits (start past-limits .args .most) kind (length (starts past-limits)) size 0 then startRefusal (kindOf kind) size 0 (starts past-limits))
