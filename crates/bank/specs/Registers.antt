@@ -1,12 +1,12 @@
 -- The bank of timed registers (01, "The register bank"): its parts, and what the deadline rule leaves of it. `Deadlines` has the rule.
-use Prim.Native.Nat.{ℕ}
+use Prim.Native.Nat.{ℕ, _*_}
 use mathlib.Core.Bool.{Bool}
 use mathlib.Core.List.{List}
 use lib.ListN.{replicate}
 use Rattle.terms.specs.declared.ProcessNumber.{ProcessNumber}
 use Rattle.terms.specs.declared.SlotNumber.{SlotNumber}
-use Rattle.terms.specs.Limits.{unlimited}
-use Rattle.registers.specs.Sizes.{registerCount, pairCount}
+use Rattle.terms.specs.Limits.{mostProcesses, unlimited}
+use Rattle.registers.specs.Sizes.{registerCount}
 use Rattle.registers.specs.Deadlines.{valueIn, deadlineIn, lateIn, Seen, Stored, readGranted, writeGranted}
 use Rattle.bank.specs.declared.Bank.{Bank}
 
@@ -14,8 +14,12 @@ use Rattle.bank.specs.declared.Bank.{Bank}
 abbrev pub bankOf : List ℕ → List ℕ → ℕ → Bank
 bankOf values deadlines last = record { values = values; deadlines = deadlines; last = last }
 
+-- a fresh bank for n processes; and for as many as a trace may have
+abbrev pub freshBankOf : ℕ → Bank
+freshBankOf n = bankOf (replicate registerCount 0) (replicate (n * registerCount) unlimited) 0
+
 unfoldable pub freshBank : Bank
-freshBank = bankOf (replicate registerCount 0) (replicate pairCount unlimited) 0
+freshBank = freshBankOf mostProcesses
 
 abbrev pub valueAt : Bank → SlotNumber → ℕ
 valueAt b c = valueIn (b .values) c

@@ -11,6 +11,8 @@ ghost use Rattle.engine.specs.Stepped.{Numbered, Due, sharedOf, Moved, S
 use model::FLAGS;
 use model::Place;
 use model::Shape;
+use registers::PAIRS;
+use registers::REGISTERS;
 use routine::takes;
 use rows::NUMBERS;
 use steps::Step;
@@ -36,8 +38,8 @@ fn make_move(
     tick: u32,
     j: usize,
     rows: &mut [u32; NUMBERS],
-    values: &mut [u32; 8],
-    deadlines: &mut [u32; 256],
+    values: &mut [u32; REGISTERS],
+    deadlines: &mut [u32; PAIRS],
     last: &mut u32,
     flags: &mut [bool; FLAGS],
 )
@@ -98,8 +100,8 @@ pub fn take_step(
     step: Step,
     j: usize,
     rows: &mut [u32; NUMBERS],
-    values: &mut [u32; 8],
-    deadlines: &mut [u32; 256],
+    values: &mut [u32; REGISTERS],
+    deadlines: &mut [u32; PAIRS],
     last: &mut u32,
     flags: &mut [bool; FLAGS],
 )

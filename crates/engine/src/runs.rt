@@ -15,15 +15,18 @@ use model::FLAGS;
 use model::LINE;
 use model::Outcome;
 use model::Shape;
+use registers::PAIRS;
+use registers::REGISTERS;
 use routine::judges;
 use rows::NUMBERS;
+use setups::PLACES;
 use setups::Setup;
 use steps::Step;
 use terms::Trace;
 use terms::Wait;
 
 // Every process begins, in rows that are blank.
-fn begin_rows(shape: Shape, starts: [u8; 32], rows: &mut [u32; NUMBERS])
+fn begin_rows(shape: Shape, starts: [u8; PLACES], rows: &mut [u32; NUMBERS])
     requires { ⌜ shape .count ≤ mostProcesses ⌝ }
     requires { ⌜ now rows ≡ replicate rowsWidth 0 ⌝ }
     ensures { λ _. ⌜ Whole (now (rows .exit)) ⌝ }
@@ -42,8 +45,8 @@ fn take_records(
     shape: Shape,
     rest: &[u8],
     rows: &mut [u32; NUMBERS],
-    values: &mut [u32; 8],
-    deadlines: &mut [u32; 256],
+    values: &mut [u32; REGISTERS],
+    deadlines: &mut [u32; PAIRS],
     last: &mut u32,
     flags: &mut [bool; FLAGS],
     newest: &mut u32,
@@ -84,7 +87,7 @@ fn take_records(
 }
 
 // A run of the records of `rest`, from its fresh state to its report.
-fn run_steps(shape: Shape, starts: [u8; 32], rest: &[u8], report: &mut [u32]) -> Outcome
+fn run_steps(shape: Shape, starts: [u8; PLACES], rest: &[u8], report: &mut [u32]) -> Outcome
     requires { ⌜ Sound shape ⌝ }
     requires { ⌜ Starts shape starts ⌝ }
     requires { ⌜ length (now rest) ≤ 8 * mostSteps ⌝ }
@@ -93,8 +96,8 @@ fn run_steps(shape: Shape, starts: [u8; 32], rest: &[u8], report: &mut [u32]) ->
 {
     let mut rows = [0u32; NUMBERS];
     begin_rows(shape, starts, &mut rows);
-    let mut values = [0u32; 8];
-    let mut deadlines = [Wait::UNLIMITED; 256];
+    let mut values = [0u32; REGISTERS];
+    let mut deadlines = [Wait::UNLIMITED; PAIRS];
     let mut last: u32 = 0;
     let mut flags = [false; FLAGS];
     let mut newest: u32 = 0;

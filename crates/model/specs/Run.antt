@@ -5,11 +5,10 @@ use mathlib.Core.List.{List, [], _∷_}
 use lib.Dec.{eqb, ltb}
 use lib.ListN.{length, drop, getD, set, replicate}
 use Rattle.terms.specs.declared.ProcessNumber.{ProcessNumber}
-use Rattle.terms.specs.Limits.{mostProcesses, mostSlots, mostSteps, unlimited}
+use Rattle.terms.specs.Limits.{mostProcesses, mostSteps}
 use Rattle.terms.specs.Numbers.{indexOf, slotOf}
 use Rattle.terms.specs.Refusal.{refuse, _then_, ifAccepted}
-use Rattle.bank.specs.declared.Bank.{Bank}
-use Rattle.bank.specs.Registers.{bankOf}
+use Rattle.bank.specs.Registers.{freshBankOf}
 use Rattle.setups.specs.declared.Setup.{Setup}
 use Rattle.steps.specs.declared.Step.{Step}
 use Rattle.records.specs.Record.{byte}
@@ -47,10 +46,6 @@ startRow u j x = cond (ltb j (u .count)) (begin (routine u) j x) blank
 unfoldable pub startRows : Shape → ℕ → List ℕ → List Row
 startRows u j [] = []
 startRows u j (x ∷ xs) = startRow u j x ∷ startRows u (suc j) xs
-
--- a fresh bank for n processes
-abbrev pub freshBankOf : ℕ → Bank
-freshBankOf n = bankOf (replicate mostSlots 0) (replicate (n * mostSlots) unlimited) 0
 
 -- the state at the start, with as many rows as there are start bytes
 unfoldable pub fresh : Shape → List ℕ → State

@@ -12,7 +12,8 @@ use Rattle.terms.specs.Limits.{mostProcesses, mostSlots, unlimited}
 use Rattle.model.specs.declared.Row.{Row}
 use Rattle.model.specs.declared.State.{State}
 use Rattle.model.specs.Sizes.{flagCount}
-use Rattle.model.specs.Run.{freshBankOf, fresh}
+use Rattle.bank.specs.Registers.{freshBankOf}
+use Rattle.model.specs.Run.{fresh}
 use Rattle.rows.specs.Rows.{Whole, rowsIn}
 use Rattle.engine.specs.Stepped.{Parts, stateIn, sharedOf, Begins}
 use Rattle.engine.proofs.WalkLaws.{ran-refused, ran-accepted}
