@@ -7,7 +7,7 @@ SAMPLE = examples/sample.trace
 CARGO  = cargo --quiet --offline
 RUST   = --release --manifest-path rust/Cargo.toml
 
-.PHONY: run test compare compare-quick bench library program fmt clean
+.PHONY: run test compare compare-quick bench library program tools fmt clean
 
 run: program
 	@echo "target/bin/bench < $(SAMPLE)"
@@ -17,18 +17,21 @@ test:
 	@bash .ci/run
 
 program:
-	@rt check bench
+	@bash .ci/prove check bench
 
 library:
-	@rt staticlib ghindulza
+	@bash .ci/prove staticlib ghindulza
 
-compare-quick: library program
-	@.ci/compare 4
+tools:
+	@bash .ci/tools
 
-compare: library program
-	@.ci/compare 40
+compare-quick: tools library program
+	@bash .ci/compare 4
 
-bench: library
+compare: tools library program
+	@bash .ci/compare 40
+
+bench: tools library
 	@for place in 0 16 32 48; do PLACE=$$place $(CARGO) run $(RUST) --example ratios || exit 1; done
 
 fmt:

@@ -103,12 +103,16 @@ uint32_t ghindulza_read_step(const uint8_t *bytes, size_t len,
  * Writes a setup of n processes, n being the number of start bytes lent.
  * Refuses with 3, 4, 5, 6, 19.
  *
+ * kind     any 32-bit number: one that does not fit its byte is refused with 3,
+ * size     or with 5, like any other out of range.
+ * delta    every 16-bit number is a bound, so none is refused. C narrows a
+ *          larger number to 16 bits before the call, without a word.
  * buffer   accepted: its first 8 + n bytes are written, no other.
  *          refused: untouched.
  * length   the record's length, 8 + n; refused: 0.
  */
-uint32_t ghindulza_write_setup(uint8_t *buffer, size_t len, uint8_t kind,
-                               uint8_t size, uint16_t delta,
+uint32_t ghindulza_write_setup(uint8_t *buffer, size_t len, uint32_t kind,
+                               uint32_t size, uint16_t delta,
                                const uint8_t *starts, size_t n,
                                uint64_t *length);
 
@@ -116,12 +120,15 @@ uint32_t ghindulza_write_setup(uint8_t *buffer, size_t len, uint8_t kind,
  * Writes a step. Refuses with 11 (not 1 to 32), 12, 13 (tick above the
  * highest), 19.
  *
+ * process  any 32-bit number: one that does not fit its byte is refused with
+ * event    11, or with 12, like any other out of range.
  * buffer   accepted: its first 8 bytes are written, no other.
  *          refused: untouched.
  * length   the record's length, 8; refused: 0.
  */
-uint32_t ghindulza_write_step(uint8_t *buffer, size_t len, uint8_t process,
-                              uint8_t event, uint32_t tick, uint64_t *length);
+uint32_t ghindulza_write_step(uint8_t *buffer, size_t len, uint32_t process,
+                              uint32_t event, uint32_t tick,
+                              uint64_t *length);
 
 /*
  * The bank of timed registers, lent in three parts:
@@ -143,7 +150,7 @@ void ghindulza_bank_fresh(uint32_t values[8], uint32_t deadlines[256],
  *
  * value    the register's value; refused: 0.
  */
-uint32_t ghindulza_bank_read(uint32_t values[8], uint32_t deadlines[256],
+uint32_t ghindulza_bank_read(const uint32_t values[8], uint32_t deadlines[256],
                              uint32_t *last, uint32_t process, uint32_t reg,
                              uint32_t tick, uint32_t wait, uint32_t *value);
 

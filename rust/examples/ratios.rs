@@ -230,8 +230,8 @@ mod plain {
     pub unsafe extern "C" fn write_setup(
         buffer: *mut u8,
         len: usize,
-        kind: u8,
-        size: u8,
+        kind: u32,
+        size: u32,
         delta: u16,
         starts: *const u8,
         n: usize,
@@ -246,8 +246,8 @@ mod plain {
     pub unsafe extern "C" fn write_step(
         buffer: *mut u8,
         len: usize,
-        process: u8,
-        event: u8,
+        process: u32,
+        event: u32,
         tick: u32,
         length: *mut u64,
     ) -> u32 {
@@ -298,18 +298,10 @@ type ReadSetup =
     unsafe extern "C" fn(*const u8, usize, *mut [u32; 5], *mut [u8; 32], *mut [u64; 2]) -> u32;
 type ReadStep = unsafe extern "C" fn(*const u8, usize, *mut [u32; 3]) -> u32;
 type WriteSetup =
-    unsafe extern "C" fn(*mut u8, usize, u8, u8, u16, *const u8, usize, *mut u64) -> u32;
-type WriteStep = unsafe extern "C" fn(*mut u8, usize, u8, u8, u32, *mut u64) -> u32;
-type BankCall<First> = unsafe extern "C" fn(
-    *mut First,
-    *mut [u32; 256],
-    *mut u32,
-    u32,
-    u32,
-    u32,
-    u32,
-    *mut u32,
-) -> u32;
+    unsafe extern "C" fn(*mut u8, usize, u32, u32, u16, *const u8, usize, *mut u64) -> u32;
+type WriteStep = unsafe extern "C" fn(*mut u8, usize, u32, u32, u32, *mut u64) -> u32;
+type BankCall<First> =
+    unsafe extern "C" fn(First, *mut [u32; 256], *mut u32, u32, u32, u32, u32, *mut u32) -> u32;
 
 fn main() {
     let mut random = Random::new(0xBE7C_0001);
@@ -511,9 +503,12 @@ fn bank(random: &mut Random, table: &mut Table) {
                 &is_read,
                 sys::ghindulza_bank_read,
                 sys::ghindulza_bank_write,
-                |bank| &raw mut bank.values,
+                |bank| (&raw const bank.values, &raw mut bank.values),
             ),
-            bank_side(&calls, &is_read, plain::bank_read, plain::bank_write, |bank| bank),
+            bank_side(&calls, &is_read, plain::bank_read, plain::bank_write, |bank| {
+                let bank = &raw mut *bank;
+                (bank, bank)
+            }),
             || {
                 black_box(
                     black_box(&calls).iter().fold(0_u32, |sum, call| sum.wrapping_add(call.2)),
@@ -525,27 +520,27 @@ fn bank(random: &mut Random, table: &mut Table) {
 }
 
 /// One side of the bank's timing. `first` says what its functions take first.
-fn bank_side<First>(
+fn bank_side<Read: Copy, Write: Copy>(
     calls: &[(u32, u32, u32, u32)],
     is_read: &[bool],
-    read: BankCall<First>,
-    write: BankCall<First>,
-    first: fn(&mut Bank) -> *mut First,
+    read: BankCall<Read>,
+    write: BankCall<Write>,
+    first: fn(&mut Bank) -> (Read, Write),
 ) -> impl FnMut() {
     let (read, write) = black_box((read, write));
     let mut bank = Bank::fresh();
     move || {
         bank.last = 0;
-        let lent = first(&mut bank);
+        let (lent_read, lent_write) = first(&mut bank);
         let (deadlines, last) = (&raw mut bank.deadlines, &raw mut bank.last);
         for (&(process, register, tick, x), &is_read) in calls.iter().zip(is_read) {
             let mut out = 0;
             // SAFETY: the lent areas have the sizes asked for.
             let number = unsafe {
                 if is_read {
-                    read(lent, deadlines, last, process, register, tick, x, &mut out)
+                    read(lent_read, deadlines, last, process, register, tick, x, &mut out)
                 } else {
-                    write(lent, deadlines, last, process, register, tick, x, &mut out)
+                    write(lent_write, deadlines, last, process, register, tick, x, &mut out)
                 }
             };
             black_box((number, &out));

@@ -71,7 +71,7 @@ impl Bank {
         // SAFETY: the areas have the sizes asked for and are apart.
         let number = unsafe {
             sys::ghindulza_bank_read(
-                &mut self.values,
+                &self.values,
                 &mut self.deadlines,
                 &mut self.last,
                 process.0,

@@ -22,7 +22,7 @@ pub enum Kind {
 pub struct Setup {
     pub kind: Kind,
     /// The number of slots (lock) or of values (decisions), 1 to 8.
-    pub size: u8,
+    pub size: u32,
     /// The bound Δ.
     pub delta: u16,
     n: u8,
@@ -52,7 +52,7 @@ pub enum Event {
 /// A step record.
 #[derive(Clone, Copy, Debug, PartialEq, Eq, Hash)]
 pub struct Step {
-    pub process: u8,
+    pub process: u32,
     pub event: Event,
     pub tick: u32,
 }
@@ -89,7 +89,7 @@ fn read(bytes: &[u8]) -> Result<(Setup, [u64; 2]), Refusal> {
         3 => Kind::Fast,
         _ => panic!("the library accepted kind {kind}"),
     };
-    let setup = Setup { kind, size: size as u8, delta: delta as u16, n: n as u8, starts };
+    let setup = Setup { kind, size, delta: delta as u16, n: n as u8, starts };
     Ok((setup, rest))
 }
 
@@ -110,7 +110,7 @@ pub fn read_step(bytes: &[u8]) -> Result<Step, Refusal> {
         1 => Event::Crash,
         _ => panic!("the library accepted event {event}"),
     };
-    Ok(Step { process: process as u8, event, tick })
+    Ok(Step { process, event, tick })
 }
 
 /// Writes a setup of `starts.len()` processes to the beginning of `buffer` and gives
@@ -123,7 +123,7 @@ pub fn read_step(bytes: &[u8]) -> Result<Step, Refusal> {
 pub fn write_setup(
     buffer: &mut [u8],
     kind: Kind,
-    size: u8,
+    size: u32,
     delta: u16,
     starts: &[u8],
 ) -> Result<usize, Refusal> {
@@ -133,7 +133,7 @@ pub fn write_setup(
         sys::ghindulza_write_setup(
             buffer.as_mut_ptr(),
             buffer.len(),
-            kind as u8,
+            kind as u32,
             size,
             delta,
             starts.as_ptr(),
@@ -152,7 +152,7 @@ pub fn write_setup(
 /// [`Refusal::Process`], [`Refusal::Tick`] or [`Refusal::BufferShort`].
 pub fn write_step(
     buffer: &mut [u8],
-    process: u8,
+    process: u32,
     event: Event,
     tick: u32,
 ) -> Result<usize, Refusal> {
@@ -163,7 +163,7 @@ pub fn write_step(
             buffer.as_mut_ptr(),
             buffer.len(),
             process,
-            event as u8,
+            event as u32,
             tick,
             &mut length,
         )

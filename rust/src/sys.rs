@@ -25,8 +25,8 @@ unsafe extern "C" {
     pub fn ghindulza_write_setup(
         buffer: *mut u8,
         len: usize,
-        kind: u8,
-        size: u8,
+        kind: u32,
+        size: u32,
         delta: u16,
         starts: *const u8,
         n: usize,
@@ -36,8 +36,8 @@ unsafe extern "C" {
     pub fn ghindulza_write_step(
         buffer: *mut u8,
         len: usize,
-        process: u8,
-        event: u8,
+        process: u32,
+        event: u32,
         tick: u32,
         length: *mut u64,
     ) -> u32;
@@ -45,7 +45,7 @@ unsafe extern "C" {
     pub fn ghindulza_bank_fresh(values: *mut [u32; 8], deadlines: *mut [u32; 256], last: *mut u32);
 
     pub fn ghindulza_bank_read(
-        values: *mut [u32; 8],
+        values: *const [u32; 8],
         deadlines: *mut [u32; 256],
         last: *mut u32,
         process: u32,

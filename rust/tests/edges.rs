@@ -112,7 +112,7 @@ fn runs_between_fences() {
 fn records_between_fences() {
     let memory = Fenced::new();
     let mut random = Random::new(0xED6E_0002);
-    for kind in 1..=3_u8 {
+    for kind in 1..=3_u32 {
         for n in 1..=32_usize {
             let starts = vec![1; n];
             let mut setup = vec![0; 8 + n];

@@ -107,7 +107,7 @@ impl Writers {
         self.buffer.fill(room, |index| 0xC3 ^ index as u8);
     }
 
-    fn check_setup(&mut self, room: usize, kind: u8, size: u8, delta: u16, starts: &[u8]) -> u32 {
+    fn check_setup(&mut self, room: usize, kind: u32, size: u32, delta: u16, starts: &[u8]) -> u32 {
         self.lend(room);
         self.starts.copy(starts, 1);
         let mut length = Guarded::new(0xA5A5_A5A5_A5A5_A5A5);
@@ -132,7 +132,7 @@ impl Writers {
         number
     }
 
-    fn check_step(&mut self, room: usize, process: u8, event: u8, tick: u32) -> u32 {
+    fn check_step(&mut self, room: usize, process: u32, event: u32, tick: u32) -> u32 {
         self.lend(room);
         let mut length = Guarded::new(0xA5A5_A5A5_A5A5_A5A5);
         // SAFETY: the lent areas have the sizes asked for and are apart.
@@ -182,7 +182,7 @@ impl Writers {
     }
 }
 
-fn setup(kind: u8, n: usize, size: u8, delta: u16) -> Vec<u8> {
+fn setup(kind: u32, n: usize, size: u32, delta: u16) -> Vec<u8> {
     let first = (kind != 1) as u8;
     let starts: Vec<u8> = (0..n).map(|index| first + (index * 5 % size as usize) as u8).collect();
     let mut bytes = vec![0; 8 + n];
@@ -190,7 +190,7 @@ fn setup(kind: u8, n: usize, size: u8, delta: u16) -> Vec<u8> {
     bytes
 }
 
-fn step(process: u8, event: u8, tick: u32) -> Vec<u8> {
+fn step(process: u32, event: u32, tick: u32) -> Vec<u8> {
     let mut bytes = vec![0; STEP_SIZE];
     independent::write_step(&mut bytes, process, event, tick).unwrap();
     bytes
@@ -202,6 +202,16 @@ fn filled(mut bytes: Vec<u8>) -> Vec<u8> {
     bytes.extend([0, 1, 8, 9, 255].iter().cycle().take(LONGEST));
     bytes.truncate(LONGEST);
     bytes
+}
+
+/// Pairs of numbers with each of these as a low byte, at every width up to 32 bits.
+fn wide_pairs(firsts: &[u32], seconds: &[u32]) -> Vec<(u32, u32)> {
+    let above = [0, 0x100, 0x1_0000, 0x100_0000, 0x8000_0000, 0xFFFF_FF00];
+    let wide = |lows: &[u32]| -> Vec<u32> {
+        lows.iter().flat_map(|low| above.map(|high| high + low)).chain([u32::MAX]).collect()
+    };
+    let seconds = wide(seconds);
+    wide(firsts).iter().flat_map(|&a| seconds.iter().map(move |&b| (a, b))).collect()
 }
 
 /// Every length, and at every position of it every other byte.
@@ -222,7 +232,7 @@ fn every_change(bytes: &mut [u8], mut check: impl FnMut(&[u8])) {
 #[test]
 fn setups_changed_in_one_byte() {
     let mut readers = Readers::new();
-    let sizes: &[u8] = if scale() > 1.0 { &[1, 2, 3, 4, 5, 6, 7, 8] } else { &[1, 3, 8] };
+    let sizes: &[u32] = if scale() > 1.0 { &[1, 2, 3, 4, 5, 6, 7, 8] } else { &[1, 3, 8] };
     let stride = if scale() < 1.0 { 31 } else { 1 };
     for kind in 1..=3 {
         for n in (1..=32).step_by(stride) {
@@ -293,8 +303,8 @@ fn random_inputs() {
     let mut random = Random::new(0x7EC0_0001);
     let mut readers = Readers::new();
     for _ in 0..scaled(2_000_000) {
-        let kind = random.between(1, 3) as u8;
-        let size = random.between(1, 8) as u8;
+        let kind = random.between(1, 3);
+        let size = random.between(1, 8);
         let mut bytes = if random.once_in(2) {
             let n = random.between(1, 32) as usize;
             let mut bytes = setup(kind, n, size, random.next() as u16);
@@ -302,7 +312,7 @@ fn random_inputs() {
             bytes.extend((0..more).map(|_| random.byte()));
             bytes
         } else {
-            let mut bytes = step(random.between(1, 32) as u8, random.below(2) as u8, 0);
+            let mut bytes = step(random.between(1, 32), random.below(2) as u32, 0);
             let tick = match random.below(3) {
                 0 => random.between(TOP_TICK - 3, TOP_TICK + 3),
                 _ => random.next() as u32,
@@ -347,7 +357,7 @@ fn setups_written() {
                 for position in [0, n / 2, n.saturating_sub(1)] {
                     for value in [0, 1, size.wrapping_sub(1), size, size.wrapping_add(1), 255] {
                         if let Some(start) = starts.get_mut(position) {
-                            *start = value;
+                            *start = value as u8;
                         }
                         for room in [0, 7, 8, 8 + n.saturating_sub(1), 8 + n, 9 + n] {
                             writers.check_setup(room.min(100), kind, size, 65_535, &starts);
@@ -368,6 +378,16 @@ fn setups_written() {
             }
         }
     }
+    // Numbers that do not fit a byte, among them those whose low byte would be accepted.
+    for (kind, size) in wide_pairs(&[0, 1, 2, 3, 4], &[0, 1, 8, 9]) {
+        for room in [0, 9, 10] {
+            writers.check_setup(room, kind, size, 258, &[1, 1]);
+            writers.check_setup(room, kind, size, 258, &[0, 9]);
+            writers.check_setup(room, kind, size, 258, &[]);
+        }
+    }
+    assert_eq!(writers.check_setup(10, 257, 2, 258, &[1, 1]), 3);
+    assert_eq!(writers.check_setup(10, 1, 258, 258, &[1, 1]), 5);
     for delta in 0..=65_535 {
         assert_eq!(writers.check_setup(11, 1, 3, delta, &[2, 0, 1]), 0);
     }
@@ -397,6 +417,17 @@ fn steps_written() {
             }
         }
     }
+    // Numbers that do not fit a byte, among them those whose low byte would be accepted.
+    for (process, event) in wide_pairs(&[0, 1, 32, 33], &[0, 1, 2]) {
+        for tick in ticks {
+            for room in [0, 7, 8, 9] {
+                writers.check_step(room, process, event, tick);
+            }
+        }
+    }
+    assert_eq!(writers.check_step(8, 257, 0, 0), 11);
+    assert_eq!(writers.check_step(8, 257, 256, 0), 11);
+    assert_eq!(writers.check_step(8, 1, 256, 0), 12);
     println!("numbers met: {:?}", writers.numbers);
     for number in [0, 11, 12, 13, 19] {
         assert!(writers.numbers[number] > 0, "{number} was never met");
@@ -409,8 +440,8 @@ fn round_trips() {
     let mut random = Random::new(0x7EC0_0002);
     let (mut readers, mut writers) = (Readers::new(), Writers::new());
     for _ in 0..scaled(500_000) {
-        let kind = random.between(1, 3) as u8;
-        let size = random.between(1, 8) as u8;
+        let kind = random.between(1, 3);
+        let size = random.between(1, 8);
         let delta = random.next() as u16;
         let first = (kind != 1) as u8;
         let n = random.between(1, 32) as usize;
@@ -421,19 +452,19 @@ fn round_trips() {
         assert_eq!(readers.check_setup(&written), 0);
         let setup = ghindulza::read_setup(&written).unwrap();
         assert_eq!(
-            (setup.kind as u8, setup.size, setup.delta, setup.starts(), setup.processes()),
+            (setup.kind as u32, setup.size, setup.delta, setup.starts(), setup.processes()),
             (kind, size, delta, &starts[..], n)
         );
         assert_eq!(ghindulza::rest(&written), &written[8 + n..]);
 
-        let (process, event) = (random.between(1, 32) as u8, random.below(2) as u8);
+        let (process, event) = (random.between(1, 32), random.below(2) as u32);
         let tick = random.between(0, TOP_TICK);
         let room = 8 + random.below(5) as usize;
         assert_eq!(writers.check_step(room, process, event, tick), 0);
         let written = writers.written().to_vec();
         assert_eq!(readers.check_step(&written), 0);
         let step = ghindulza::read_step(&written).unwrap();
-        assert_eq!((step.process, step.event as u8, step.tick), (process, event, tick));
+        assert_eq!((step.process, step.event as u32, step.tick), (process, event, tick));
     }
 }
 
@@ -490,7 +521,7 @@ fn megabytes() {
     let (mut readers, mut writers) = (Readers::new(), Writers::new());
     for _ in 0..scaled(40) {
         let length = 1_000_000 + random.below(1_000_000) as usize;
-        let mut bytes = setup(random.between(1, 3) as u8, 32, 8, 500);
+        let mut bytes = setup(random.between(1, 3), 32, 8, 500);
         bytes.resize(length, random.byte());
         readers.check_both(&bytes);
         bytes[random.below(40) as usize] = random.byte();

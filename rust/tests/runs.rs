@@ -198,7 +198,7 @@ fn every_state_of_small_benches() {
             let mut queue = VecDeque::from([(setup, bench)]);
             while let Some((mut trace, bench)) = queue.pop_front() {
                 let length = trace.len();
-                for process in 1..=starts.len() as u8 {
+                for process in 1..=starts.len() as u32 {
                     for ahead in 0..=delta as u32 + 2 {
                         for event in [0, 1] {
                             let mut card = [0; STEP_SIZE];

@@ -17,6 +17,7 @@ use Rattle.answers.specs.declared.ReadAnswer.{ReadAnswer}
 use Rattle.answers.specs.declared.WriteAnswer.{WriteAnswer}
 use Rattle.refusals.specs.Refusals.{callRefusal, readRefusal}
 use Rattle.refusals.proofs.Accepted.{accepted-good, read-accepted-good}
+use Rattle.registers.specs.Sizes.{registerCount}
 use Rattle.registers.specs.Deadlines.{pairOf, due, writeGranted}
 use Rattle.registers.proofs.Pairs.{pair-below, pair-same}
 use Rattle.bank.specs.declared.Bank.{Bank}
@@ -35,7 +36,8 @@ accepted-call-has-a-pair last (Call.reading i c t d) h = accepted-good last i c 
 accepted-call-has-a-pair last (Call.writing i c t v) h = accepted-good last i c t h .0
 
 pub refused-call-changes-nothing : (b : Bank) (k : Call) → (refusalAt (b .last) k ≡ 0 → ⊥) → after b k ≡ b
-refused-call-changes-nothing b (Call.reading i c t d) h = λ x. sym (read-refused (b .values) (b .deadlines) (b .last) i c t d (readRefusal (b .last) i c t d) refl h) x .bank
+refused-call-changes-nothing b (Call.reading i c t d) h =
+    λ x. sym (read-refused (b .values) (b .deadlines) (b .last) i c t d (readRefusal (b .last) i c t d) refl h) x .bank
 refused-call-changes-nothing b (Call.writing i c t v) h = λ x. sym (write-refused b i c t v (callRefusal (b .last) i c t) refl h) x .bank
 
 -- the result of an accepted read, and of an accepted write
@@ -71,11 +73,11 @@ module _ (b : Bank) (k : Call) where
   call-keeps-sizes s =
       after-either b k Sized s (λ e. record { values = kept k; deadlines = length-set (b .deadlines) _ _ ∙ s .deadlines })
     where
-      either-length : (late : Bool) (c v : ℕ) → length (cond late (b .values) (set (b .values) c v)) ≡ 8
+      either-length : (late : Bool) (c v : ℕ) → length (cond late (b .values) (set (b .values) c v)) ≡ registerCount
       either-length true c v = s .values
       either-length false c v = length-set (b .values) c v ∙ s .values
 
-      kept : (k : Call) → length (valuesAfter b k) ≡ 8
+      kept : (k : Call) → length (valuesAfter b k) ≡ registerCount
       kept (Call.reading i c t d) = s .values
       kept (Call.writing i c t v) = either-length (lateAt b i c t) (c .0) v
 
@@ -132,7 +134,8 @@ module _ (b : Bank) (i : ProcessNumber) (c : SlotNumber) (t : ℕ) where
     pub write-in-time-stores : Sized b → t ≤ deadlineAt b i c → valueAt (writeOf b i c t v .bank) c ≡ v
     unfolding afterWrite
     write-in-time-stores s l =
-        rw (write-result b i c t v h, le-ltb (deadlineAt b i c) t l) (getD-set-same (b .values) (c .0) v 0 (rw (s .values) (accepted-good (b .last) i c t h .0 .slot)))
+        let slot = accepted-good (b .last) i c t h .0 .slot in
+        rw (write-result b i c t v h, le-ltb (deadlineAt b i c) t l) (getD-set-same (b .values) (c .0) v 0 (rw (s .values) slot))
 
     pub late-write-keeps-values : deadlineAt b i c < t → writeOf b i c t v .bank .values ≡ b .values
     unfolding afterWrite

@@ -37,7 +37,8 @@ module _ (last : ℕ) (i : ProcessNumber) (c : SlotNumber) (t d r : ℕ) (known 
 
 -- A call of a bank, by its refusal r: refused, or what the deadline rule gives. A read's bank is given by its parts: it leaves one of them.
 module _ (values deadlines : List ℕ) (last : ℕ) (i : ProcessNumber) (c : SlotNumber) (t d r : ℕ) (known : r ≡ readRefusal last i c t d) where
-  pub read-refused : (r ≡ 0 → ⊥) → record { bank = bankOf values deadlines last; answer = ReadAnswer.Refused r } ≡ readOf (bankOf values deadlines last) i c t d
+  pub read-refused : (r ≡ 0 → ⊥)
+      → record { bank = bankOf values deadlines last; answer = ReadAnswer.Refused r } ≡ readOf (bankOf values deadlines last) i c t d
   unfolding readOf
   read-refused h = rw (← known, if-refused r h)
 

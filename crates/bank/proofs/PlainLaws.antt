@@ -13,6 +13,7 @@ use Rattle.terms.specs.Limits.{unlimited}
 use Rattle.answers.specs.declared.WriteAnswer.{WriteAnswer}
 use Rattle.refusals.specs.Refusals.{callRefusal}
 use Rattle.refusals.proofs.Accepted.{accepted-good}
+use Rattle.registers.specs.Sizes.{registerCount, pairCount}
 use Rattle.registers.specs.Deadlines.{pairOf}
 use Rattle.registers.proofs.Pairs.{pair-below}
 use Rattle.bank.specs.declared.Bank.{Bank}
@@ -25,11 +26,11 @@ use Rattle.bank.proofs.HistoryLaws.{call-keeps-unbound, unbound-write-i
 
 pub fresh-bank-is-sized : Sized freshBank
 unfolding freshBank
-fresh-bank-is-sized = record { values = length-replicate {A = ℕ} 8 0; deadlines = length-replicate 256 unlimited }
+fresh-bank-is-sized = record { values = length-replicate {A = ℕ} registerCount 0; deadlines = length-replicate pairCount unlimited }
 
 pub fresh-bank-is-unbound : Unbound freshBank
 unfolding freshBank
-fresh-bank-is-unbound i c p = getD-replicate 256 (pairOf i c) unlimited 0 (pair-below p)
+fresh-bank-is-unbound i c p = getD-replicate pairCount (pairOf i c) unlimited 0 (pair-below p)
 
 limitless-leaves : (k : Call) → Limitless k → leaves k ≡ unlimited
 limitless-leaves (Call.reading i c t d) h = rw h

@@ -9,6 +9,7 @@ use Rattle.terms.specs.Limits.{unlimited}
 use Rattle.terms.specs.Ranges.{IsPair}
 use Rattle.terms.specs.Refusal.{ifAccepted}
 use Rattle.refusals.specs.Refusals.{callRefusal, readRefusal}
+use Rattle.registers.specs.Sizes.{registerCount, pairCount}
 use Rattle.registers.specs.Deadlines.{due}
 use Rattle.bank.specs.declared.Bank.{Bank}
 use Rattle.bank.specs.Registers.{deadlineAt}
@@ -68,10 +69,10 @@ abbrev pub Limitless : Call → Type 0
 Limitless (Call.reading i c t d) = d ≡ unlimited
 Limitless (Call.writing i c t v) = Unit {0}
 
--- a bank has 8 values and 256 deadlines, as each `Bank` in code does
+-- a bank has a value for each register and a deadline for each pair, as each `Bank` in code does
 pub record Sized (b : Bank) : Type 0 where
-  pub values : length (b .values) ≡ 8
-  pub deadlines : length (b .deadlines) ≡ 256
+  pub values : length (b .values) ≡ registerCount
+  pub deadlines : length (b .deadlines) ≡ pairCount
 
 -- no pair is bound
 abbrev pub Unbound : Bank → Type 0

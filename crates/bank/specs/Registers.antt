@@ -6,6 +6,7 @@ use lib.ListN.{replicate}
 use Rattle.terms.specs.declared.ProcessNumber.{ProcessNumber}
 use Rattle.terms.specs.declared.SlotNumber.{SlotNumber}
 use Rattle.terms.specs.Limits.{unlimited}
+use Rattle.registers.specs.Sizes.{registerCount, pairCount}
 use Rattle.registers.specs.Deadlines.{valueIn, deadlineIn, lateIn, Seen, Stored, readGranted, writeGranted}
 use Rattle.bank.specs.declared.Bank.{Bank}
 
@@ -14,7 +15,7 @@ abbrev pub bankOf : List ℕ → List ℕ → ℕ → Bank
 bankOf values deadlines last = record { values = values; deadlines = deadlines; last = last }
 
 unfoldable pub freshBank : Bank
-freshBank = bankOf (replicate 8 0) (replicate 256 unlimited) 0
+freshBank = bankOf (replicate registerCount 0) (replicate pairCount unlimited) 0
 
 abbrev pub valueAt : Bank → SlotNumber → ℕ
 valueAt b c = valueIn (b .values) c

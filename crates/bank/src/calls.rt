@@ -1,6 +1,8 @@
 // A read and a write as a caller meets them, over a bank whose parts are lent: refused in the order of document 01, or granted.
 use answers::ReadAnswer;
 use answers::WriteAnswer;
+use registers::PAIRS;
+use registers::REGISTERS;
 use terms::ProcessNumber;
 use terms::SlotNumber;
 ghost use mathlib.Core.Path.{_≡_};
@@ -8,8 +10,8 @@ ghost use Rattle.bank.specs.Registers.{bankOf};
 ghost use Rattle.bank.specs.Calls.{readOf, writeOf};
 
 pub fn read_in(
-    values: &[u32; 8],
-    deadlines: &mut [u32; 256],
+    values: &[u32; REGISTERS],
+    deadlines: &mut [u32; PAIRS],
     last: &mut u32,
     i: ProcessNumber,
     c: SlotNumber,
@@ -28,8 +30,8 @@ pub fn read_in(
 }
 
 pub fn write_in(
-    values: &mut [u32; 8],
-    deadlines: &mut [u32; 256],
+    values: &mut [u32; REGISTERS],
+    deadlines: &mut [u32; PAIRS],
     last: &mut u32,
     i: ProcessNumber,
     c: SlotNumber,

@@ -4,6 +4,8 @@ pub mod calls;
 
 use answers::ReadAnswer;
 use answers::WriteAnswer;
+use registers::PAIRS;
+use registers::REGISTERS;
 use terms::ProcessNumber;
 use terms::SlotNumber;
 use terms::Wait;
@@ -13,8 +15,8 @@ ghost use Rattle.bank.specs.Calls.{readOf, writeOf};
 
 // The registers' values, the deadline of each pair at `(i - 1) * 8 + c`, and the tick of the last accepted call.
 pub struct Bank {
-    pub values: [u32; 8],
-    pub deadlines: [u32; 256],
+    pub values: [u32; REGISTERS],
+    pub deadlines: [u32; PAIRS],
     pub last: u32,
 }
 
@@ -34,8 +36,8 @@ impl Bank {
         ensures { λ r. ⌜ r ≡ freshBank ⌝ }
     {
         Bank {
-            values: [0; 8],
-            deadlines: [Wait::UNLIMITED; 256],
+            values: [0; REGISTERS],
+            deadlines: [Wait::UNLIMITED; PAIRS],
             last: 0,
         }
     }

@@ -22,7 +22,7 @@ use Rattle.model.proofs.SetupSays.{setup-sound, setup-starts}
 use Rattle.model.proofs.ReportLaws.{refusedRun, ran-unset, ran-narrow, ran-long, ran-on}
 use Rattle.engine.specs.Stepped.{ranFrom}
 
-module _ (trace : List ℕ) (read : SetupRead) (reads : read ≡ setupRead trace) where
+module _ (trace : List ℕ) (read : SetupRead) (reads : read ≡ setupRead mostProcesses trace) where
   number : read .refusal ≡ setupRefusal mostProcesses trace
   unfolding setupRead
   number = ap (λ (x : SetupRead). x .refusal) reads
@@ -34,7 +34,7 @@ module _ (trace : List ℕ) (read : SetupRead) (reads : read ≡ setupRead trace
     passed : setupRefusal mostProcesses trace ≡ 0
     passed = sym number ∙ accepted
 
-    fields : read .setup ≡ setupFields trace
+    fields : read .setup ≡ setupFields mostProcesses trace
     unfolding setupRead
     fields = ap (λ (x : SetupRead). x .setup) reads ∙ if-accepted _ passed _ _
 
@@ -59,7 +59,7 @@ module _ (trace : List ℕ) (read : SetupRead) (reads : read ≡ setupRead trace
     too-long old wide h = ran-long mostProcesses trace old passed (omega (arith, count)) (omega (arith, ap length part-is))
 
     module _ (u : Shape) (shapes : u ≡ shapeOf (read .setup)) where
-      shape : u ≡ shapeOf (setupFields trace)
+      shape : u ≡ shapeOf (setupFields mostProcesses trace)
       shape = shapes ∙ ap shapeOf fields
 
       pub sound : Bytes trace → Sound u

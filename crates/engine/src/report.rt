@@ -9,7 +9,7 @@ ghost use Rattle.model.specs.Routine.{routineOf, routine};
 ghost use Rattle.model.specs.Sizes.{lineWidth};
 ghost use Rattle.model.specs.Report.{shownOf, shownPlace, figureOf, line, lines};
 ghost use Rattle.rows.specs.Rows.{rowIn, rowsIn, IsRow};
-use model::Kind;
+use kinds::Kind;
 use model::LINE;
 use model::Place;
 use model::Shape;

@@ -5,14 +5,13 @@ ghost use lib.ListN.{length, replicate};
 ghost use Rattle.terms.specs.Limits.{mostProcesses, mostSteps};
 ghost use Rattle.model.specs.Bounds.{Sound, Starts};
 ghost use Rattle.model.specs.Sizes.{lineWidth};
-ghost use Rattle.model.specs.Run.{startRows, shapeOf, kindOf};
+ghost use Rattle.model.specs.Run.{startRows, shapeOf};
 ghost use Rattle.model.specs.Report.{ranOf};
 ghost use Rattle.rows.specs.Rows.{rowsWidth, Whole, rowsIn};
 ghost use Rattle.engine.specs.Stepped.{stateIn, Begins, Walked, ranFrom};
 use crate::moves;
 use crate::report;
 use model::FLAGS;
-use model::Kind;
 use model::LINE;
 use model::Outcome;
 use model::Shape;
@@ -116,22 +115,10 @@ fn run_steps(shape: Shape, starts: [u8; 32], rest: &[u8], report: &mut [u32]) ->
     outcome
 }
 
-fn kind_of(k: u8) -> Kind
-    ensures { λ r. ⌜ r ≡ kindOf k ⌝ }
-{
-    if k == 1 {
-        return Kind::Lock;
-    }
-    if k == 2 {
-        return Kind::Plain;
-    }
-    Kind::Fast
-}
-
 fn shape_of(setup: Setup) -> Shape
     ensures { λ u. ⌜ u ≡ shapeOf setup ⌝ }
 {
-    let kind = kind_of(setup.kind);
+    let kind = kinds::kind_of(setup.kind as u32);
     Shape {
         kind,
         count: setup.processes as u32,

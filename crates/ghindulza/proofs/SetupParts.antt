@@ -12,7 +12,7 @@ use Rattle.setups.specs.Setup.{setupRefusal, setupRead, setupRest, restStart}
 use Rattle.setups.proofs.SetupLaws.{setup-said}
 use Rattle.ghindulza.specs.Surface.{setupNumbers, setupOut}
 
-module _ (s : List ℕ) (r : SetupRead) (known : r ≡ setupRead s) where
+module _ (s : List ℕ) (r : SetupRead) (known : r ≡ setupRead mostProcesses s) where
   asked : r .refusal ≡ setupRefusal mostProcesses s
   unfolding setupRead
   asked = ap (λ (x : SetupRead). x .refusal) known

@@ -2,6 +2,7 @@
 use Prim.Native.Nat.{ℕ, _-_}
 use mathlib.Core.List.{List, [], _∷_}
 use lib.ListN.{length}
+use Rattle.terms.specs.Limits.{mostProcesses}
 use Rattle.terms.specs.Numbers.{processOf}
 use Rattle.answers.specs.declared.WriteAnswer.{WriteAnswer}
 use Rattle.answers.specs.Answers.{readNumber, readValue, writeNumber}
@@ -13,6 +14,11 @@ use Rattle.steps.specs.declared.Step.{Step}
 use Rattle.setups.specs.Setup.{setupRead, setupRest, restStart}
 use Rattle.setups.specs.declared.SetupRead.{SetupRead}
 use Rattle.steps.specs.declared.StepRead.{StepRead}
+use Rattle.model.specs.Report.{Ran}
+
+-- a run: the number of the refusal, the count of accepted steps or the record of the refusal, and the report
+abbrev pub ranOut : ℕ → ℕ → List ℕ → Ran
+ranOut number at report = record { outcome = record { number = number; at = at }; report = report }
 
 -- kind, n, ℓ or b, byte 5 (0 in every accepted setup), Δ
 abbrev pub setupNumbers : Setup → List ℕ
@@ -28,10 +34,10 @@ pub record SetupOut : Type 0 where
 abbrev pub setupOut : List ℕ → SetupOut
 setupOut s =
     record {
-      number = setupRead s .refusal;
-      fields = setupNumbers (setupRead s .setup);
-      starts = setupRead s .setup .starts;
-      rest = restStart s ∷ length (setupRest s) ∷ [];
+      number = setupRead mostProcesses s .refusal;
+      fields = setupNumbers (setupRead mostProcesses s .setup);
+      starts = setupRead mostProcesses s .setup .starts;
+      rest = restStart mostProcesses s ∷ length (setupRest mostProcesses s) ∷ [];
     }
 
 -- a step that was read: the number of the refusal, and process, event, tick

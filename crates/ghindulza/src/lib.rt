@@ -4,30 +4,31 @@ use answers::WriteAnswer;
 use bank::Bank;
 use bank::calls;
 use engine::runs;
+use registers::PAIRS;
+use registers::REGISTERS;
+use setups::PLACES;
 use steps::Step;
 use terms::ProcessNumber;
 use terms::SlotNumber;
 ghost use mathlib.Core.Path.{_≡_};
-ghost use lib.ListN.{length};
 ghost use Rattle.terms.specs.Limits.{mostProcesses};
 ghost use Rattle.terms.specs.Numbers.{processOf, slotOf};
 ghost use Rattle.bank.specs.Registers.{bankOf, freshBank};
 ghost use Rattle.bank.specs.Calls.{readOf, writeOf};
-ghost use Rattle.records.specs.Record.{Wrote};
-ghost use Rattle.setups.specs.Setup.{setupBytes, setupWriteRefusal};
-ghost use Rattle.steps.specs.Step.{stepRead, stepBytes, stepWriteRefusal};
+ghost use Rattle.setups.specs.Setup.{WroteSetup};
+ghost use Rattle.steps.specs.Step.{stepRead, WroteStep};
 ghost use Rattle.model.specs.Report.{ranOf};
-ghost use Rattle.ghindulza.specs.Surface.{setupOut, stepOut, stepOf, answerCode, readOut, writeOut};
+ghost use Rattle.ghindulza.specs.Surface.{ranOut, setupOut, stepOut, stepOf, answerCode, readOut, writeOut};
 
 // A RUN
 
-// `at`: the count of accepted steps, or the record of the refusal.
+// `record`: the count of accepted steps, or the record of the refusal.
 #[no_mangle]
-pub extern "C" fn ghindulza_run(trace: &[u8], report: &mut [u32], at: &mut u32) -> u32
-    ensures { λ r. ⌜ record { outcome = record { number = r; at = now (at .exit) }; report = now (report .exit) } ≡ ranOf (now (trace .entry)) (now (report .entry)) ⌝ }
+pub extern "C" fn ghindulza_run(trace: &[u8], report: &mut [u32], record: &mut u32) -> u32
+    ensures { λ r. ⌜ ranOut r (now («record» .exit)) (now (report .exit)) ≡ ranOf mostProcesses (now (trace .entry)) (now (report .entry)) ⌝ }
 {
     let outcome = runs::run(trace, report);
-    *at = outcome.at;
+    *record = outcome.at;
     outcome.number
 }
 
@@ -38,10 +39,11 @@ pub extern "C" fn ghindulza_run(trace: &[u8], report: &mut [u32], at: &mut u32) 
 pub extern "C" fn ghindulza_read_setup(
     bytes: &[u8],
     fields: &mut [u32; 5],
-    starts: &mut [u8; 32],
+    starts: &mut [u8; PLACES],
     rest: &mut [u64; 2],
 ) -> u32
-    ensures { λ r. ⌜ record { number = r; fields = now (fields .exit); starts = now (starts .exit); rest = now (rest .exit) } ≡ setupOut (now (bytes .entry)) ⌝ }
+    ensures { λ r. ⌜ record { number = r; fields = now (fields .exit); starts = now (starts .exit); rest = now (rest .exit) }
+        ≡ setupOut (now (bytes .entry)) ⌝ }
 {
     let read = setups::read_setup(bytes);
     let setup = read.setup;
@@ -69,45 +71,45 @@ pub extern "C" fn ghindulza_read_step(bytes: &[u8], fields: &mut [u32; 3]) -> u3
 {
     let answer = steps::read_step(bytes);
     let step = answer.step;
-    *fields = [step.process.0, step.event as u32, step.tick];
+    *fields = [step.process.0, step.event, step.tick];
     answer.refusal
 }
 
 #[no_mangle]
 pub extern "C" fn ghindulza_write_setup(
     buffer: &mut [u8],
-    kind: u8,
-    size: u8,
+    kind: u32,
+    size: u32,
     delta: u16,
     starts: &[u8],
-    len: &mut u64,
+    length: &mut u64,
 ) -> u32
-    ensures { λ r. ⌜ Wrote (setupWriteRefusal mostProcesses kind size (now (starts .entry)) (length (now (buffer .entry)))) (setupBytes kind size delta (now (starts .entry))) (now (buffer .entry))
-        (record { refusal = r; len = now (len .exit) }) (now (buffer .exit)) ⌝ }
+    ensures { λ r. ⌜ WroteSetup mostProcesses kind size delta (now (starts .entry)) (now (buffer .entry))
+        (record { refusal = r; len = now (length .exit) }) (now (buffer .exit)) ⌝ }
 {
     let written = setups::write_setup(kind, size, delta, starts, buffer);
-    *len = written.len as u64;
+    *length = written.len as u64;
     written.refusal
 }
 
 #[no_mangle]
 pub extern "C" fn ghindulza_write_step(
     buffer: &mut [u8],
-    process: u8,
-    event: u8,
+    process: u32,
+    event: u32,
     tick: u32,
-    len: &mut u64,
+    length: &mut u64,
 ) -> u32
-    ensures { λ r. ⌜ Wrote (stepWriteRefusal mostProcesses (stepOf process event tick) (length (now (buffer .entry)))) (stepBytes (stepOf process event tick)) (now (buffer .entry))
-        (record { refusal = r; len = now (len .exit) }) (now (buffer .exit)) ⌝ }
+    ensures { λ r. ⌜ WroteStep mostProcesses (stepOf process event tick) (now (buffer .entry))
+        (record { refusal = r; len = now (length .exit) }) (now (buffer .exit)) ⌝ }
 {
     let step = Step {
-        process: ProcessNumber(process as u32),
+        process: ProcessNumber(process),
         event,
         tick,
     };
     let wrote = steps::write_step(step, buffer);
-    *len = wrote.len as u64;
+    *length = wrote.len as u64;
     wrote.refusal
 }
 
@@ -126,8 +128,8 @@ fn answer_code(answer: WriteAnswer) -> u32
 
 #[no_mangle]
 pub extern "C" fn ghindulza_bank_fresh(
-    values: &mut [u32; 8],
-    deadlines: &mut [u32; 256],
+    values: &mut [u32; REGISTERS],
+    deadlines: &mut [u32; PAIRS],
     last: &mut u32,
 )
     ensures { λ r. ⌜ bankOf (now (values .exit)) (now (deadlines .exit)) (now (last .exit)) ≡ freshBank ⌝ }
@@ -142,24 +144,24 @@ pub extern "C" fn ghindulza_bank_fresh(
 
 #[no_mangle]
 pub extern "C" fn ghindulza_bank_read(
-    values: &mut [u32; 8],
-    deadlines: &mut [u32; 256],
+    values: &[u32; REGISTERS],
+    deadlines: &mut [u32; PAIRS],
     last: &mut u32,
     process: u32,
-    register: u32,
+    reg: u32,
     tick: u32,
     wait: u32,
     value: &mut u32,
 ) -> u32
-    ensures { λ r. ⌜ record { number = r; bank = bankOf (now (values .exit)) (now (deadlines .exit)) (now (last .exit)); answer = now (value .exit) }
-        ≡ readOut (readOf (bankOf (now (values .entry)) (now (deadlines .entry)) (now (last .entry))) (processOf process) (slotOf register) tick wait) ⌝ }
+    ensures { λ r. ⌜ record { number = r; bank = bankOf (now (values .entry)) (now (deadlines .exit)) (now (last .exit)); answer = now (value .exit) }
+        ≡ readOut (readOf (bankOf (now (values .entry)) (now (deadlines .entry)) (now (last .entry))) (processOf process) (slotOf reg) tick wait) ⌝ }
 {
     let found = calls::read_in(
         values,
         deadlines,
         last,
         ProcessNumber(process),
-        SlotNumber(register),
+        SlotNumber(reg),
         tick,
         wait,
     );
@@ -169,27 +171,27 @@ pub extern "C" fn ghindulza_bank_read(
 
 #[no_mangle]
 pub extern "C" fn ghindulza_bank_write(
-    values: &mut [u32; 8],
-    deadlines: &mut [u32; 256],
+    values: &mut [u32; REGISTERS],
+    deadlines: &mut [u32; PAIRS],
     last: &mut u32,
     process: u32,
-    register: u32,
+    reg: u32,
     tick: u32,
     value: u32,
-    code: &mut u32,
+    answer: &mut u32,
 ) -> u32
-    ensures { λ r. ⌜ record { number = r; bank = bankOf (now (values .exit)) (now (deadlines .exit)) (now (last .exit)); answer = now (code .exit) }
-        ≡ writeOut (writeOf (bankOf (now (values .entry)) (now (deadlines .entry)) (now (last .entry))) (processOf process) (slotOf register) tick value) ⌝ }
+    ensures { λ r. ⌜ record { number = r; bank = bankOf (now (values .exit)) (now (deadlines .exit)) (now (last .exit)); answer = now (answer .exit) }
+        ≡ writeOut (writeOf (bankOf (now (values .entry)) (now (deadlines .entry)) (now (last .entry))) (processOf process) (slotOf reg) tick value) ⌝ }
 {
-    let answer = calls::write_in(
+    let found = calls::write_in(
         values,
         deadlines,
         last,
         ProcessNumber(process),
-        SlotNumber(register),
+        SlotNumber(reg),
         tick,
         value,
     );
-    *code = answer_code(answer);
-    answer.number()
+    *answer = answer_code(found);
+    found.number()
 }

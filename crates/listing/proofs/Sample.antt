@@ -4,10 +4,10 @@ use Prim.Native.Nat.{ℕ, _<_}
 use mathlib.Core.Path.{_≡_, refl, sym}
 use mathlib.Core.List.{List, [], _∷_}
 use lib.ListN.{length}
-use Rattle.bank.specs.Registers.{freshBank, afterRead, afterWrite}
-use Rattle.setups.specs.Setup.{badKind, badSize, badStart, setupRefusal}
+use Rattle.bank.specs.Registers.{afterRead, afterWrite}
+use Rattle.setups.specs.Setup.{badSize, badStart, setupRefusal}
 use Rattle.steps.specs.Step.{stepRefusal}
-use Rattle.model.specs.Run.{startRows, fresh, moveAt, stop, after, judge, recordRefusal, advance, reach, records, runRefusal, runOf}
+use Rattle.model.specs.Run.{startRows, fresh, moveAt, stop, after, judge, recordRefusal, advance, follow, runOn, records, runRefusal}
 use Rattle.model.specs.Report.{line, lines, reportOf, outcomeOf, ranOf}
 use Rattle.listing.specs.Text.{digits, processLines, ranText, textOf}
 use Rattle.listing.proofs.TextLaws.{text-over}
@@ -35,8 +35,8 @@ text =
     ∷ []
 
 pub sample : textOf input ≡ text
-unfolding freshBank afterRead afterWrite badKind badSize badStart setupRefusal stepRefusal startRows fresh moveAt stop after judge recordRefusal
-    advance reach records runRefusal runOf line lines reportOf outcomeOf ranOf digits processLines ranText textOf
+unfolding afterRead afterWrite badSize badStart setupRefusal stepRefusal startRows fresh moveAt stop after judge recordRefusal
+    advance follow runOn records runRefusal line lines reportOf outcomeOf ranOf digits processLines ranText textOf
 sample = refl
 
 -- that setup and a move of process 17: `refused 11 at record 1`
@@ -44,8 +44,8 @@ pub refused-sample : textOf
     (0x4F ∷ 0x53 ∷ 0x02 ∷ 0x02 ∷ 0x02 ∷ 0x00 ∷ 0x02 ∷ 0x00 ∷ 0x01 ∷ 0x02 ∷ 0x4F ∷ 0x54 ∷ 0x11 ∷ 0x00 ∷ 0x00 ∷ 0x00 ∷ 0x00 ∷ 0x00 ∷ [])
     ≡ 0x72 ∷ 0x65 ∷ 0x66 ∷ 0x75 ∷ 0x73 ∷ 0x65 ∷ 0x64 ∷ 0x20 ∷ 0x31 ∷ 0x31 ∷ 0x20 ∷ 0x61 ∷ 0x74 ∷ 0x20
     ∷ 0x72 ∷ 0x65 ∷ 0x63 ∷ 0x6F ∷ 0x72 ∷ 0x64 ∷ 0x20 ∷ 0x31 ∷ 0x0A ∷ []
-unfolding freshBank afterRead afterWrite badKind badSize badStart setupRefusal stepRefusal startRows fresh moveAt stop after judge recordRefusal
-    advance reach records runRefusal runOf line lines reportOf outcomeOf ranOf digits processLines ranText textOf
+unfolding afterRead afterWrite badSize badStart setupRefusal stepRefusal startRows fresh moveAt stop after judge recordRefusal
+    advance follow runOn records runRefusal line lines reportOf outcomeOf ranOf digits processLines ranText textOf
 refused-sample = refl
 
 -- `input over 65536`

@@ -15,7 +15,7 @@ use Rattle.terms.proofs.RefusalLaws.{passed, if-accepted, if-refused}
 use Rattle.records.specs.Record.{byte}
 use Rattle.setups.specs.Setup.{setupRefusal}
 use Rattle.model.specs.Sizes.{lineWidth, reportWidth}
-use Rattle.model.specs.Run.{Progress, Progress.stopped, restOf, records, reached, runRefusal, runOf}
+use Rattle.model.specs.Run.{Progress, Progress.stopped, restOf, records, reached, runOn, runRefusal}
 use Rattle.model.specs.Report.{Ran, outcomeOf, ranOf}
 use Rattle.listing.specs.Put.{spliced, Put}
 use Rattle.listing.specs.Text.{overLine, headLine, refusedLine, processLines, ranText, mostInput, textOf, Listed}
@@ -26,10 +26,10 @@ refused-number k zero p h = refl
 refused-number k (suc x) p h = h
 
 -- an accepted run's report has room for its lines (refusal 7)
-pub accepted-fits : (trace old : List ℕ) → ranOf trace old .outcome .number ≡ 0 → lineWidth * byte 3 trace ≤ length old
-unfolding ranOf runOf runRefusal
+pub accepted-fits : (trace old : List ℕ) → ranOf mostProcesses trace old .outcome .number ≡ 0 → lineWidth * byte 3 trace ≤ length old
+unfolding ranOf runOn runRefusal
 accepted-fits trace old h =
-    let none = refused-number (records (restOf trace)) (runRefusal trace (length old)) (reached trace (records (restOf trace))) h in
+    let none = refused-number (records (restOf trace)) (runRefusal mostProcesses trace (length old)) (reached mostProcesses trace (records (restOf trace))) h in
     let first = passed 7 _ (ltb (8 * mostSteps) (length (restOf trace))) none .0 in
     ltb-false (length old) (lineWidth * byte 3 trace) (passed 6 (setupRefusal mostProcesses trace) _ first .1)
 
@@ -48,7 +48,7 @@ module _ (input : List ℕ) where
   unfolding textOf
   text-over h = rw (lt-ltb mostInput (length input) h)
 
-  pub text-ran : length input ≤ mostInput → (ran : Ran) → ran ≡ ranOf input (replicate reportWidth 0) → ranText input ran ≡ textOf input
+  pub text-ran : length input ≤ mostInput → (ran : Ran) → ran ≡ ranOf mostProcesses input (replicate reportWidth 0) → ranText input ran ≡ textOf input
   unfolding textOf
   text-ran h ran e = rw (le-ltb mostInput (length input) h) (ap (ranText input) e)
 

@@ -5,6 +5,7 @@ use mathlib.Core.Path.{_≡_}
 use mathlib.Core.List.{List, [], _∷_, _++_}
 use lib.Dec.{ltb}
 use lib.ListN.{length, take, getD, replicate}
+use Rattle.terms.specs.Limits.{mostProcesses}
 use Rattle.terms.specs.Refusal.{ifAccepted}
 use Rattle.terms.specs.Overlay.{overlay}
 use Rattle.records.specs.Record.{byte}
@@ -89,7 +90,7 @@ mostInput = 65_536
 unfoldable pub textOf : List ℕ → List ℕ
 textOf input =
     cond (ltb mostInput (length input)) overLine
-    (ranText input (ranOf input (replicate reportWidth 0)))
+    (ranText input (ranOf mostProcesses input (replicate reportWidth 0)))
 
 -- What the program's text leaves of a buffer that held `before`: the text's length is answered, and it lies over the buffer's front.
 -- `within` follows, and spares a caller the proof that `&text[..r]` is a part.

@@ -6,7 +6,7 @@ use mathlib.Core.List.{List, [], map}
 use lib.ListN.{replicate}
 use Rattle.terms.specs.Limits.{mostProcesses}
 use Rattle.bank.specs.Registers.{afterRead, afterWrite}
-use Rattle.setups.specs.Setup.{badKind, badSize, badStart, setupRefusal}
+use Rattle.setups.specs.Setup.{badSize, badStart, setupRefusal}
 use Rattle.steps.specs.Step.{stepRefusal}
 use Rattle.model.specs.Run.{startRows, fresh, moveAt, stop, after, judge, recordRefusal, advance, follow, runOn, records, runRefusal, runOf}
 use Rattle.model.specs.Run.{Progress, Progress.going, Progress.stopped}
@@ -26,6 +26,6 @@ ran s =
     record { trace = s; number = r .outcome .number; at = r .outcome .at; report = r .report; registers = held (runOf mostProcesses s 9) }
 
 pub examples : map (λ (c : Case). ran (c .trace)) cases ≡ cases
-unfolding afterRead afterWrite badKind badSize badStart setupRefusal stepRefusal
+unfolding afterRead afterWrite badSize badStart setupRefusal stepRefusal
     startRows fresh moveAt stop after judge recordRefusal advance follow runOn records runRefusal line lines reportOf outcomeOf ranOf
 examples = refl

@@ -23,7 +23,6 @@ pub mod Theorems
 pub mod Cuts
 pub mod Points
 pub mod Witnesses
-pub mod MoreWitnesses
 pub mod StartLaws
 pub mod ReportLaws
 pub mod Examples

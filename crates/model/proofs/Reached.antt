@@ -9,12 +9,13 @@ use native.Mathlib.Decide.{ℕ-discrete}
 use lib.Dec.{T}
 use lib.ListN.{length, getD}
 use Rattle.records.specs.Record.{byte}
+use Rattle.kinds.specs.Kinds.{kindOf}
 use Rattle.setups.specs.Setup.{places, startBytes}
 use Rattle.setups.proofs.SetupLaws.{setup-said, place-at}
 use Rattle.model.specs.declared.State.{State}
 use Rattle.model.specs.Routine.{routineOf, routine}
 use Rattle.model.specs.Bounds.{Bytes}
-use Rattle.model.specs.Run.{rowAt, kindOf, shape, restOf, records, startOf, reached, runOf, Progress.going, Progress.stopped}
+use Rattle.model.specs.Run.{rowAt, shape, restOf, records, startOf, reached, runOf, Progress.going, Progress.stopped}
 use Rattle.model.specs.Report.{ranOf}
 use Rattle.model.specs.Claims.{At, Decides, Proposed, Within, Counted, movesIn, latesIn, Decision, shown, ShownProposed, ShownWithin}
 use Rattle.model.proofs.Places.{timedDecision, settled}

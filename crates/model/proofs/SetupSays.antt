@@ -1,31 +1,27 @@
 -- What an accepted setup says of the shape and the start bytes of its run, and an accepted run of the report and the bytes.
 -- Assumes nothing.
 use Prim.Native.Nat.{ℕ, _+_, _*_, _≤_}
-use mathlib.Core.Path.{_≡_, refl}
-use mathlib.Core.Bool.{Bool, true, false, cond}
+use mathlib.Core.Path.{_≡_}
 use mathlib.Core.List.{List}
 use native.Mathlib.Omega.{arith}
-use lib.Dec.{eqb}
 use lib.ListN.{length}
-use borrow.Author.Tests.{eqb-true, eqb-false, ltb-false, le-ltb}
+use borrow.Author.Tests.{ltb-false, le-ltb}
 use Rattle.terms.specs.Limits.{mostSteps}
 use Rattle.terms.proofs.RefusalLaws.{passed}
 use Rattle.records.specs.Record.{byte}
-use Rattle.setups.specs.Setup.{badStart, startBytes, places, setupRefusal}
-use Rattle.setups.proofs.SetupLaws.{AcceptedSetup, setup-said, start-good, slot-said, proposal-said, start-count, place-at, length-places}
-use Rattle.model.specs.declared.Kind.{Kind}
+use Rattle.setups.specs.Setup.{startBytes, places, setupRefusal}
+use Rattle.setups.proofs.SetupLaws.{AcceptedSetup, setup-said, limits-size, StartSaid, start-said, start-good, start-count, place-at, length-places}
+use Rattle.kinds.specs.declared.Kind.{Kind}
+use Rattle.kinds.specs.Kinds.{kindOf}
 use Rattle.model.specs.Routine.{routineOf}
 use Rattle.model.specs.Bounds.{Bytes, Sound, startOk, Starts}
 use Rattle.model.specs.Sizes.{lineWidth}
-use Rattle.model.specs.Run.{kindOf, shape, restOf, runRefusal}
+use Rattle.model.specs.Run.{shape, restOf, runRefusal}
 
-pub start-ok : (kind size x : ℕ) → badStart kind size x ≡ false → startOk (routineOf (kindOf kind)) size x
-start-ok kind size x good = by (eqb kind 1) refl (eqb kind 2)
-  where
-    by : (b : Bool) → eqb kind 1 ≡ b → (c : Bool) → startOk (routineOf (cond b Kind.Lock (cond c Kind.Plain Kind.Fast))) size x
-    by true e c = slot-said size x (rw (eqb-true kind 1 e) at good)
-    by false e true = proposal-said kind (eqb-false kind 1 e) size x good
-    by false e false = proposal-said kind (eqb-false kind 1 e) size x good
+pub start-ok : (κ : Kind) (size x : ℕ) → StartSaid κ size x → startOk (routineOf κ) size x
+start-ok Kind.Lock size x h = h
+start-ok Kind.Plain size x h = h
+start-ok Kind.Fast size x h = h
 
 module _ (most : ℕ) (trace : List ℕ) (h : setupRefusal most trace ≡ 0) where
   said : AcceptedSetup most trace
@@ -34,10 +30,11 @@ module _ (most : ℕ) (trace : List ℕ) (h : setupRefusal most trace ≡ 0) whe
   pub setup-sound : Bytes trace → Sound (shape trace)
   setup-sound bytes =
       let l = said .head .limits in
+      let size = limits-size _ _ _ _ _ l in
       record {
         some = l .someone;
-        sized = l .sizeLow;
-        slim = l .sizeHigh;
+        sized = size .0;
+        slim = size .1;
         bounded = omega (arith, bytes 6, bytes 7);
       }
 
@@ -50,7 +47,7 @@ module _ (most : ℕ) (trace : List ℕ) (h : setupRefusal most trace ≡ 0) whe
         each =
             λ j below.
             rw (place-at trace whole most j below)
-            (start-ok (byte 2 trace) (byte 4 trace) (byte (8 + j) trace) (start-good most trace said j below));
+            (start-ok (kindOf (byte 2 trace)) (byte 4 trace) (byte (8 + j) trace) (start-said _ _ _ _ _ _ (start-good most trace said j below)));
       }
 
 -- a setup that is accepted, and room for the report and the steps

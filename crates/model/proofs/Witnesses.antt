@@ -3,7 +3,7 @@
 use Prim.Native.Nat.{ℕ, zero, suc}
 use mathlib.Core.Path.{_≡_, refl}
 use mathlib.Core.Bool.{Bool, true, false, _&&_}
-use mathlib.Core.List.{List, [], _∷_}
+use mathlib.Core.List.{List, [], _∷_, _++_}
 use native.Mathlib.Omega.{arith}
 use lib.Dec.{T, ltb}
 use lib.ListN.{replicate}
@@ -12,16 +12,17 @@ use Rattle.terms.specs.Limits.{mostProcesses}
 use Rattle.terms.specs.Numbers.{slotOf}
 use Rattle.bank.specs.Registers.{afterRead, afterWrite, valueAt}
 use Rattle.records.specs.Record.{byte}
-use Rattle.setups.specs.Setup.{badKind, badSize, badStart, setupRefusal}
+use Rattle.setups.specs.Setup.{badSize, badStart, setupRefusal}
 use Rattle.steps.specs.Step.{stepRefusal}
+use Rattle.model.specs.declared.Place.{Place}
 use Rattle.model.specs.declared.State.{State}
 use Rattle.model.specs.Bounds.{Bytes}
 use Rattle.model.specs.Run.{rowAt, startRows, fresh, moveAt, stop, after, judge, recordRefusal, advance, follow, runOn, records, runRefusal, runOf}
-use Rattle.model.specs.Run.{startOf, reached, Progress, Progress.going, Progress.stopped}
+use Rattle.model.specs.Run.{restOf, startOf, reached, Progress, Progress.going, Progress.stopped}
 use Rattle.model.specs.Counts.{howMany}
-use Rattle.model.specs.Claims.{At, Inside, Occupies, Decides, Proposed, movesIn, latesIn, shown}
-use Rattle.model.specs.Report.{line, lines, reportOf, outcomeOf, ranOf}
-use Rattle.model.specs.Traces.{p1, p2, p5, p6, p9, p10, p11, lateOnce, crashesDecided, crashesInside, leaves}
+use Rattle.model.specs.Claims.{At, Inside, Occupies, Decides, Proposed, movesIn, latesIn, cutAt, Decision, shown, ShownProposed}
+use Rattle.model.specs.Report.{line, lines, reportOf, outcomeOf, Ran, ranOf}
+use Rattle.model.specs.Traces.{p1, p2, p3, p5, p6, p9, p10, p11, lateOnce, crashesDecided, crashesWaiting, crashesInside, leaves, shows}
 
 -- TRACES
 
@@ -54,12 +55,19 @@ all-bytes (x ∷ xs) h (suc j) = all-bytes xs (both (ltb x 256) (small xs) h .1)
 at : (s : List ℕ) (k : ℕ) → T (small s) → setupRefusal mostProcesses s ≡ 0 → reached mostProcesses s k ≡ going (led s k) → Point s k
 at s k b a e = record { bytes = all-bytes s b; setup = a; led = e }
 
--- of a run whose report held eight 7s: whether it is accepted, and number m of row j
+-- of a run whose report held eight 7s: what it returns and leaves, that it is accepted, and number m of row j
 abbrev old : List ℕ
 old = replicate 8 7
 
+abbrev ran : List ℕ → Ran
+ran s = ranOf mostProcesses s old
+
 abbrev Accepted : List ℕ → Type 0
-Accepted s = ranOf mostProcesses s old .outcome .number ≡ 0
+Accepted s = Bytes s × (ran s .outcome .number ≡ 0)
+
+-- accepted with k records, and these lines
+abbrev said : ℕ → List ℕ → List ℕ → Ran
+said k x y = record { outcome = record { number = 0; at = k }; report = x ++ y }
 
 abbrev number : List ℕ → ℕ → ℕ → ℕ
 number s j m = shown mostProcesses s old j m
@@ -82,16 +90,27 @@ pub record Witnessed : Type 0 where
   pub fast-bound : Point p11 8 × (byte 2 p11 ≡ 3) × (byte 4 p11 ≡ 2) × (movesIn p11 0 8 ≡ 7) × (latesIn mostProcesses p11 0 8 ≡ 0)
   -- the state that a refused run had reached: P1
   pub refused-later : Point p1 4 × (runOf mostProcesses p1 8 ≡ stopped 16 5)
-  -- the report: P9's two rows with place 5, P6's two rows with place 8 ..
+  -- who has not decided: P3; who has, whatever comes after: P5
+  pub undecided-there : Point p3 2 × (rowAt (led p3 2) 0 .local .place ≡ Place.Look) × (rowAt (led p3 2) 0 .local .decided ≡ 0)
+  -- cut after a record: P6 after 6, where process 1 has decided and process 2 has not; P1 after 4, before its refusal
+  pub cut-on-the-way : (ran p6 .outcome ≡ record { number = 0; at = 10 }) × (ran (cutAt p6 6) ≡ said 6 (shows 8 1 5 0) (shows 2 0 1 0))
+  pub cut-before-refusal : (ran p1 .outcome ≡ record { number = 16; at = 5 }) × (ran (cutAt p1 4) ≡ said 4 (shows 4 0 4 0) (shows 1 0 0 0))
+  -- the report: P9's two rows with place 5; P6's two rows with place 8 and one value, which process 1 proposed
   pub report-two-inside : Accepted p9 × (number p9 0 0 ≡ 5) × (number p9 1 0 ≡ 5)
-  pub report-decided : Accepted p6 × (number p6 0 0 ≡ 8) × (number p6 1 0 ≡ 8)
-  -- .. and a row that decided and crashed, beside one that decided later
-  pub report-crashed : Accepted crashesDecided × (number crashesDecided 0 0 ≡ 9) × (number crashesDecided 0 1 ≡ 1) × (number crashesDecided 1 1 ≡ 1)
-  -- .. and one at its bound
+  pub report-decided : Accepted p6 × Decision p6 × (number p6 0 0 ≡ 8) × (number p6 0 1 ≡ 1) × (number p6 1 0 ≡ 8) × (number p6 1 1 ≡ 1)
+      × ShownProposed mostProcesses p6 old 1
+  -- a row that decided and crashed, beside one that decided later; and one that has not decided: P3
+  pub report-crashed : Accepted crashesDecided × Decision crashesDecided × (number crashesDecided 0 0 ≡ 9) × (number crashesDecided 0 1 ≡ 1)
+      × (number crashesDecided 1 1 ≡ 1)
+  pub report-undecided : Accepted p3 × Decision p3 × (number p3 0 0 ≡ 1) × (number p3 0 1 ≡ 0)
+  -- the counts of all records: P6's late write; the moves of one that crashed
+  pub report-counts : (records (restOf p6) ≡ 10) × (number p6 1 2 ≡ 5) × (movesIn p6 1 10 ≡ 5) × (number p6 1 3 ≡ 1) × (latesIn mostProcesses p6 1 10 ≡ 1)
+  pub report-crash-no-move : Accepted crashesWaiting × (records (restOf crashesWaiting) ≡ 5) × (number crashesWaiting 0 2 ≡ 4) × (movesIn crashesWaiting 0 5 ≡ 4)
+  -- a row at its bound
   pub report-bound : Accepted lateOnce × (number lateOnce 0 2 ≡ 7) × (number lateOnce 0 3 ≡ 1) × (number lateOnce 0 0 ≡ 8)
 
 pub witnesses : Witnessed
-unfolding afterRead afterWrite badKind badSize badStart setupRefusal stepRefusal
+unfolding afterRead afterWrite badSize badStart setupRefusal stepRefusal
     startRows fresh moveAt stop after judge recordRefusal advance follow runOn records runRefusal line lines reportOf outcomeOf ranOf howMany
 witnesses =
     record {
@@ -105,8 +124,22 @@ witnesses =
       plain-bound-late = (at lateOnce 7 tt refl refl, refl, refl, refl);
       fast-bound = (at p11 8 tt refl refl, refl, refl, refl, refl);
       refused-later = (at p1 4 tt refl refl, refl);
-      report-two-inside = (refl, refl, refl);
-      report-decided = (refl, refl, refl);
-      report-crashed = (refl, refl, refl, refl);
-      report-bound = (refl, refl, refl, refl);
+      undecided-there = (at p3 2 tt refl refl, refl, refl);
+      cut-on-the-way = (refl, refl);
+      cut-before-refusal = (refl, refl);
+      report-two-inside = ((all-bytes p9 tt, refl), refl, refl);
+      report-decided = (
+        (all-bytes p6 tt, refl),
+        (omega arith, omega arith),
+        refl,
+        refl,
+        refl,
+        refl,
+        record { who = 0; among = omega arith; proposed = refl; moved = omega arith },
+      );
+      report-crashed = ((all-bytes crashesDecided tt, refl), (omega arith, omega arith), refl, refl, refl);
+      report-undecided = ((all-bytes p3 tt, refl), (omega arith, omega arith), refl, refl);
+      report-counts = (refl, refl, refl, refl, refl);
+      report-crash-no-move = ((all-bytes crashesWaiting tt, refl), refl, refl, refl);
+      report-bound = ((all-bytes lateOnce tt, refl), refl, refl, refl);
     }

@@ -7,7 +7,7 @@ use Rattle.terms.specs.Limits.{unlimited}
 use Rattle.terms.specs.declared.SlotNumber.{SlotNumber}
 use Rattle.terms.specs.Numbers.{slotOf}
 use Rattle.model.specs.declared.Place.{Place}
-use Rattle.model.specs.declared.Kind.{Kind}
+use Rattle.kinds.specs.declared.Kind.{Kind}
 use Rattle.model.specs.declared.Shape.{Shape}
 use Rattle.model.specs.declared.Local.{Local}
 use Rattle.model.specs.declared.Row.{Row}

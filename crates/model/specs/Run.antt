@@ -5,7 +5,7 @@ use mathlib.Core.List.{List, [], _∷_}
 use lib.Dec.{eqb, ltb}
 use lib.ListN.{length, drop, getD, set, replicate}
 use Rattle.terms.specs.declared.ProcessNumber.{ProcessNumber}
-use Rattle.terms.specs.Limits.{mostSlots, mostSteps, unlimited}
+use Rattle.terms.specs.Limits.{mostProcesses, mostSlots, mostSteps, unlimited}
 use Rattle.terms.specs.Numbers.{indexOf, slotOf}
 use Rattle.terms.specs.Refusal.{refuse, _then_, ifAccepted}
 use Rattle.bank.specs.declared.Bank.{Bank}
@@ -17,7 +17,7 @@ use Rattle.setups.specs.Setup.{places, startBytes, setupRefusal, setupFields}
 use Rattle.steps.specs.Step.{stepRefusal, stepFields}
 use Rattle.model.specs.Sizes.{lineWidth, flagCount}
 use Rattle.model.specs.declared.Place.{Place}
-use Rattle.model.specs.declared.Kind.{Kind}
+use Rattle.kinds.specs.Kinds.{kindOf}
 use Rattle.model.specs.declared.Shape.{Shape}
 use Rattle.model.specs.declared.Row.{Row}
 use Rattle.model.specs.declared.Ask.{Ask}
@@ -90,7 +90,7 @@ isMove k = eqb (k .event) 0
 unfoldable pub after : Shape → State → Step → State
 after u s k = cond (isMove k) (move u s (k .process) (k .tick)) (stop s (k .process) (k .tick))
 
--- 13 (below the newest accepted one), 14, 15, 16, of a step of the process with row r
+-- 13 (below the newest accepted one), 14, 15, 16, of a step of the process with row r, in a run of the shape u
 unfoldable pub judge : Shape → Row → ℕ → Step → ℕ
 judge u r newest k =
     refuse 13 (early newest (k .tick))
@@ -148,15 +148,12 @@ records rest = (length rest + 7) / 8
 
 -- A RUN
 
-abbrev pub kindOf : ℕ → Kind
-kindOf k = cond (eqb k 1) Kind.Lock (cond (eqb k 2) Kind.Plain Kind.Fast)
-
 abbrev pub shapeOf : Setup → Shape
 shapeOf f = record { kind = kindOf (f .kind); count = f .processes; size = f .size; delta = f .delta }
 
--- what a trace's setup says of the run, and the bytes behind it
+-- what a trace's setup says of the run (whatever the most processes are), and the bytes behind it
 abbrev pub shape : List ℕ → Shape
-shape trace = shapeOf (setupFields trace)
+shape trace = shapeOf (setupFields mostProcesses trace)
 
 abbrev pub restOf : List ℕ → List ℕ
 restOf trace = drop (8 + byte 3 trace) trace

@@ -5,6 +5,7 @@ ghost use Rattle.terms.specs.Limits.{mostProcesses};
 ghost use Rattle.model.specs.Routine.{routineOf};
 ghost use Rattle.model.specs.Run.{startRows};
 use bank::Bank;
+use kinds::Kind;
 use terms::SlotNumber;
 use terms::Trace;
 
@@ -32,13 +33,6 @@ pub enum Place {
     Flag,
     Scan,
     Decided,
-}
-
-// What a trace is run against: the slot lock (kind 1), the plain decision (kind 2), the fast decision (kind 3).
-pub enum Kind {
-    Lock,
-    Plain,
-    Fast,
 }
 
 // What a setup says of the whole run: `size` is ℓ in kind 1 and b in the others, `delta` the bound Δ.

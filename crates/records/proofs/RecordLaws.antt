@@ -3,13 +3,14 @@
 use mathlib.Core.Path.{_≡_, refl, sym, _∙_, ap}
 use mathlib.Core.Bool.{Bool, true, false}
 use mathlib.Core.List.{List, [], _∷_}
-use Prim.Native.Nat.{ℕ, zero, suc, _<_}
+use Prim.Native.Nat.{ℕ, zero, suc, _+_, _<_}
+use native.Mathlib.Nat.{add-zero}
 use native.Mathlib.Omega.{arith}
 use borrow.Author.Tests.{eqb-true, eq-eqb}
 use lib.ListN.{length, getD}
 use Rattle.terms.specs.Little.{AllBytes}
 use Rattle.terms.specs.Overlay.{overlay}
-use Rattle.terms.specs.Refusal.{any}
+use Rattle.terms.specs.Refusal.{anyFrom}
 use Rattle.terms.proofs.RefusalLaws.{both-false, both-true, if-refused}
 use Rattle.records.specs.Record.{byte, marked, Wrote}
 use Rattle.records.specs.declared.Written.{Written}
@@ -33,25 +34,28 @@ pub small-bytes : (s : List ℕ) → ((i : ℕ) → byte i s < 256) → AllBytes
 small-bytes [] h = tt
 small-bytes (b ∷ bs) h = (h 0, small-bytes bs (λ i. h (suc i)))
 
--- of a list with no bad element no element is bad, and the other way round
-pub none-bad : (bad : ℕ → Bool) (xs : List ℕ) → any bad xs ≡ false → (j : ℕ) → j < length xs → bad (getD xs j 0) ≡ false
-none-bad bad [] h j below = absurd (omega arith)
-none-bad bad (x ∷ xs) h zero below = both-false (bad x) (any bad xs) h .0
-none-bad bad (x ∷ xs) h (suc j) below = none-bad bad xs (both-false (bad x) (any bad xs) h .1) j (omega arith)
+-- of a list with no bad element no element is bad at its index, and the other way round
+pub none-bad : (i : ℕ) (bad : ℕ → ℕ → Bool) (xs : List ℕ) → anyFrom i bad xs ≡ false → (j : ℕ) → j < length xs → bad (i + j) (getD xs j 0) ≡ false
+none-bad i bad [] h j below = absurd (omega arith)
+none-bad i bad (x ∷ xs) h zero below = rw (add-zero i) (both-false (bad i x) (anyFrom (suc i) bad xs) h .0)
+none-bad i bad (x ∷ xs) h (suc j) below =
+    let next : i + suc j ≡ suc i + j = omega arith in
+    rw next (none-bad (suc i) bad xs (both-false (bad i x) (anyFrom (suc i) bad xs) h .1) j (omega arith))
 
-pub all-good : (bad : ℕ → Bool) (xs : List ℕ) → ((j : ℕ) → j < length xs → bad (getD xs j 0) ≡ false) → any bad xs ≡ false
-all-good bad [] h = refl
-all-good bad (x ∷ xs) h =
-    let first : bad x ≡ false = h 0 (omega arith) in
-    let later : any bad xs ≡ false = all-good bad xs (λ j below. h (suc j) (omega arith)) in
-    rw (first, later)
+pub all-good : (i : ℕ) (bad : ℕ → ℕ → Bool) (xs : List ℕ) → ((j : ℕ) → j < length xs → bad (i + j) (getD xs j 0) ≡ false) → anyFrom i bad xs ≡ false
+all-good i bad [] h = refl
+all-good i bad (x ∷ xs) h =
+    let first : bad i x ≡ false = rw (add-zero i) at (h 0 (omega arith)) in
+    let next : (j : ℕ) → suc i + j ≡ i + suc j = λ j. omega arith in
+    rw (first, all-good (suc i) bad xs (λ j below. rw (next j) (h (suc j) (omega arith))))
 
 module _ (refusal : ℕ) (rec before : List ℕ) (r : Written) (after : List ℕ) where
   -- a writer's refusal with k, and its acceptance
   pub wrote-refused : (k : ℕ) → refusal ≡ k → (k ≡ 0 → ⊥) → r ≡ record { refusal = k; len = 0 } → after ≡ before → Wrote refusal rec before r after
   wrote-refused k e h a b = record { answer = a ∙ simp (e, if-refused k h); buffer = b ∙ simp (e, if-refused k h) }
 
-  pub wrote-accepted : (n : ℕ) → refusal ≡ 0 → r ≡ record { refusal = 0; len = n } → n ≡ length rec → after ≡ overlay rec before → Wrote refusal rec before r after
+  pub wrote-accepted : (n : ℕ) → refusal ≡ 0 → r ≡ record { refusal = 0; len = n } → n ≡ length rec → after ≡ overlay rec before
+      → Wrote refusal rec before r after
   wrote-accepted n e a l b = record { answer = a ∙ simp (e, l); buffer = b ∙ simp e }
 
   -- what a promise says where its table accepts, where it refuses, and where the answer's number is 0

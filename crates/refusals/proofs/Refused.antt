@@ -8,10 +8,9 @@ use borrow.Author.Needs.{needs}
 use borrow.Author.Tests.{eq-eqb, ne-eqb, lt-ltb, le-ltb, le-leb, lt-leb}
 use Rattle.terms.specs.declared.ProcessNumber.{ProcessNumber}
 use Rattle.terms.specs.declared.SlotNumber.{SlotNumber}
-use Rattle.terms.specs.Limits.{mostProcesses, mostSlots, topTick, topWait, unlimited}
-use Rattle.terms.specs.Refusal.{refuse, _then_, outside}
+use Rattle.terms.specs.Refusal.{refuse, outside}
 use Rattle.terms.proofs.RefusalLaws.{then-stop}
-use Rattle.refusals.specs.Refusals.{callRefusal, readRefusal}
+use Rattle.refusals.specs.Refusals.{processRefusal, slotRefusal, tickRefusal, waitRefusal, callRefusal, readRefusal}
 
 -- one test: x is below a range, above it, or in it; x is at least a bound, or below it
 module _ (k low high x : ℕ) where
@@ -54,17 +53,17 @@ module _ (k top free d : ℕ) where
   wait-too-long g h = rw (lt-ltb top d g, ne-eqb d free h)
 
 -- the tables, line by line: the first number that is not 0 decides
-module _ (last : ℕ) (i : ProcessNumber) (c : SlotNumber) (t process : ℕ) (p : process ≡ refuse 11 (outside 1 mostProcesses (i .0))) where
+module _ (last : ℕ) (i : ProcessNumber) (c : SlotNumber) (t process : ℕ) (p : process ≡ processRefusal i) where
   pub process-refused : (process ≡ 0 → ⊥) → process ≡ callRefusal last i c t
   unfolding callRefusal
   process-refused h = rw (← p, then-stop process h, then-stop process h)
 
-  module _ (none : process ≡ 0) (slot : ℕ) (s : slot ≡ refuse 17 (leb mostSlots (c .0))) where
+  module _ (none : process ≡ 0) (slot : ℕ) (s : slot ≡ slotRefusal c) where
     pub slot-refused : (slot ≡ 0 → ⊥) → slot ≡ callRefusal last i c t
     unfolding callRefusal
     slot-refused h = rw (← p, none, ← s, then-stop slot h)
 
-    pub tick-decides : slot ≡ 0 → (tick : ℕ) → tick ≡ refuse 13 (ltb topTick t || ltb t last) → tick ≡ callRefusal last i c t
+    pub tick-decides : slot ≡ 0 → (tick : ℕ) → tick ≡ tickRefusal last t → tick ≡ callRefusal last i c t
     unfolding callRefusal
     tick-decides h tick k = rw (← p, none, ← s, h, ← k)
 
@@ -73,7 +72,7 @@ module _ (last : ℕ) (i : ProcessNumber) (c : SlotNumber) (t d call : ℕ) (kno
   unfolding readRefusal
   call-refused h = rw (← known, then-stop call h)
 
-  pub wait-decides : call ≡ 0 → (wait : ℕ) → wait ≡ refuse 18 (ltb topWait d && not (eqb d unlimited)) → wait ≡ readRefusal last i c t d
+  pub wait-decides : call ≡ 0 → (wait : ℕ) → wait ≡ waitRefusal d → wait ≡ readRefusal last i c t d
   unfolding readRefusal
   wait-decides h wait w = rw (← known, h, ← w)
 

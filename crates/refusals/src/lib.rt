@@ -4,14 +4,10 @@ use terms::SlotNumber;
 use terms::Trace;
 use terms::Wait;
 ghost use mathlib.Core.Path.{_≡_};
-ghost use mathlib.Core.Bool.{not, _||_, _&&_};
-ghost use lib.Dec.{eqb, leb, ltb};
-ghost use Rattle.terms.specs.Limits.{mostProcesses, mostSlots, topTick, topWait, unlimited};
-ghost use Rattle.terms.specs.Refusal.{refuse, outside};
-ghost use Rattle.refusals.specs.Refusals.{callRefusal, readRefusal};
+ghost use Rattle.refusals.specs.Refusals.{processRefusal, slotRefusal, tickRefusal, waitRefusal, callRefusal, readRefusal};
 
 fn process_refusal(i: ProcessNumber) -> u32
-    ensures { λ r. ⌜ r ≡ refuse 11 (outside 1 mostProcesses (i .0)) ⌝ }
+    ensures { λ r. ⌜ r ≡ processRefusal i ⌝ }
 {
     if i.0 < 1 {
         return 11;
@@ -23,7 +19,7 @@ fn process_refusal(i: ProcessNumber) -> u32
 }
 
 fn slot_refusal(c: SlotNumber) -> u32
-    ensures { λ r. ⌜ r ≡ refuse 17 (leb mostSlots (c .0)) ⌝ }
+    ensures { λ r. ⌜ r ≡ slotRefusal c ⌝ }
 {
     if Trace::SLOTS <= c.0 {
         return 17;
@@ -32,7 +28,7 @@ fn slot_refusal(c: SlotNumber) -> u32
 }
 
 fn tick_refusal(last: u32, t: u32) -> u32
-    ensures { λ r. ⌜ r ≡ refuse 13 (ltb topTick t || ltb t last) ⌝ }
+    ensures { λ r. ⌜ r ≡ tickRefusal last t ⌝ }
 {
     if Trace::TOP_TICK < t {
         return 13;
@@ -44,7 +40,7 @@ fn tick_refusal(last: u32, t: u32) -> u32
 }
 
 fn wait_refusal(d: u32) -> u32
-    ensures { λ r. ⌜ r ≡ refuse 18 (ltb topWait d && not (eqb d unlimited)) ⌝ }
+    ensures { λ r. ⌜ r ≡ waitRefusal d ⌝ }
 {
     if d <= Wait::TOP {
         return 0;

@@ -8,10 +8,11 @@ use Rattle.terms.specs.declared.ProcessNumber.{ProcessNumber}
 use Rattle.terms.specs.declared.SlotNumber.{SlotNumber}
 use Rattle.terms.specs.Limits.{unlimited}
 use Rattle.terms.specs.Numbers.{indexOf}
+use Rattle.registers.specs.Sizes.{registerCount}
 
--- the place of a pair among the 256 deadlines
+-- the place of a pair among the deadlines
 abbrev pub pairOf : ProcessNumber → SlotNumber → ℕ
-pairOf i c = indexOf i * 8 + c .0
+pairOf i c = indexOf i * registerCount + c .0
 
 abbrev pub valueIn : List ℕ → SlotNumber → ℕ
 valueIn values c = getD values (c .0) 0

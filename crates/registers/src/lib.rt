@@ -2,10 +2,19 @@
 // The crate `bank` refuses the others.
 use terms::ProcessNumber;
 use terms::SlotNumber;
+use terms::Trace;
 use terms::Wait;
 ghost use mathlib.Core.Path.{_≡_};
 ghost use Rattle.terms.specs.Ranges.{IsPair, IsTick, IsWait};
 ghost use Rattle.registers.specs.Deadlines.{pairOf, due, readGranted, writeGranted};
+
+// Sizes. specs/Sizes.antt has the same numbers for the prover.
+
+// The registers of a bank.
+pub const REGISTERS: usize = Trace::SLOTS as usize;
+
+// The pairs of a process and a register.
+pub const PAIRS: usize = Trace::PROCESSES as usize * REGISTERS;
 
 // The place of a pair among the deadlines.
 fn pair_of(i: ProcessNumber, c: SlotNumber) -> usize
@@ -13,7 +22,7 @@ fn pair_of(i: ProcessNumber, c: SlotNumber) -> usize
     ensures { λ r. ⌜ r ≡ pairOf i c ⌝ }
 {
     let row = (i.0 - 1) as usize;
-    row * 8 + c.0 as usize
+    row * REGISTERS + c.0 as usize
 }
 
 // The deadline that a read at tick t with the wait d sets.
@@ -30,8 +39,8 @@ fn due_at(t: u32, d: u32) -> u32
 
 // The value of register c; the pair's deadline becomes t with the wait, or unlimited.
 pub fn read_granted(
-    values: &[u32; 8],
-    deadlines: &mut [u32; 256],
+    values: &[u32; REGISTERS],
+    deadlines: &mut [u32; PAIRS],
     last: &mut u32,
     i: ProcessNumber,
     c: SlotNumber,
@@ -53,8 +62,8 @@ pub fn read_granted(
 
 // True where the write is late: the value stays then, and is v otherwise. Either way the pair's deadline becomes unlimited.
 pub fn write_granted(
-    values: &mut [u32; 8],
-    deadlines: &mut [u32; 256],
+    values: &mut [u32; REGISTERS],
+    deadlines: &mut [u32; PAIRS],
     last: &mut u32,
     i: ProcessNumber,
     c: SlotNumber,

@@ -8,7 +8,7 @@ ghost use Rattle.model.specs.Time.{wakeAt};
 ghost use Rattle.model.specs.declared.Place.{Place};
 ghost use Rattle.model.specs.Routine.{SlotRule, slotsOf, scanAt, scanFrom};
 ghost use Rattle.rows.specs.Rows.{rowIn, IsRow, Whole, Changed, turn, taken, Takes};
-use model::Kind;
+use kinds::Kind;
 use model::Place;
 use model::Shape;
 use rows::NUMBERS;

@@ -17,7 +17,7 @@ ghost use Rattle.rows.specs.Rows.{
   begunIn,
   Uncounted,
 };
-use model::Kind;
+use kinds::Kind;
 use model::Place;
 use model::ROWS;
 use terms::SlotNumber;

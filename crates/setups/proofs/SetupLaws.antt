@@ -1,100 +1,88 @@
 -- What an accepted setup says, and that what says it is accepted: no caller looks into the table.
 -- Assumes nothing.
 use mathlib.Core.Path.{_≡_, refl, sym, _∙_, ap}
-use mathlib.Core.Bool.{false}
+use mathlib.Core.Bool.{Bool, false}
 use mathlib.Core.List.{List, []}
 use Prim.Native.Nat.{ℕ, zero, suc, _+_, _-_, _≤_, _<_}
+use native.Mathlib.Nat.{zero-add}
 use native.Mathlib.Omega.{arith}
-use borrow.Author.Tests.{ltb-false, leb-false, eqb-true, le-ltb, lt-leb, eq-eqb, ne-eqb, not-false}
+use borrow.Author.Tests.{ltb-false, leb-false, eqb-true, le-ltb, lt-leb, eq-eqb, not-false}
 use lib.ListN.{length, getD, drop, replicate, length-append, length-take, length-drop, length-replicate, List·getD-append}
 use lib.Seq.{getD-take, getD-drop, getD-append-add}
 use lib.Dec.{ltb}
-use Rattle.terms.specs.Limits.{mostProcesses, mostSlots}
+use Rattle.terms.specs.Limits.{mostSlots}
 use Rattle.terms.specs.Little.{AllBytes}
-use Rattle.terms.specs.Refusal.{any}
 use Rattle.terms.proofs.RefusalLaws.{if-refused, then-both, passed, refuse-false, both-false, not-outside, inside}
+use Rattle.kinds.specs.declared.Kind.{Kind}
+use Rattle.kinds.specs.Kinds.{lastKind, kindOf}
 use Rattle.records.specs.Record.{byte}
-use Rattle.setups.specs.Setup.{setupMark, badKind, badSize, badStart, setupLimits, headRefusal, startBytes, places, setupFields, noSetup, setupRefusal, setupRead, setupRest, restStart, setupWriteRefusal}
+use Rattle.setups.specs.Setup.{setupMark, outOfLimits, badSize, badStart, anyBadStart, setupLimits, headRefusal, startBytes, places}
+use Rattle.setups.specs.Setup.{setupFields, noSetup, setupRefusal, setupRead, setupRest, restStart, setupWriteRefusal}
 use Rattle.setups.specs.declared.SetupRead.{SetupRead}
 use Rattle.records.proofs.RecordLaws.{marked-said, byte-small, none-bad, all-good}
 
 -- BY KIND
 
-pub kind-said : (kind : ℕ) → badKind kind ≡ false → (1 ≤ kind) × (kind ≤ 3)
-unfolding badKind
-kind-said kind h = not-outside 1 3 kind h
-
-pub said-kind : (kind : ℕ) → 1 ≤ kind → kind ≤ 3 → badKind kind ≡ false
-unfolding badKind
-said-kind kind l h = inside 1 3 kind l h
-
-pub size-said : (kind size spare : ℕ) → badSize kind size spare ≡ false → (1 ≤ size) × (size ≤ mostSlots) × (spare ≡ 0)
-unfolding badSize
-size-said kind size spare h =
+limits-in : (size spare : ℕ) → outOfLimits size spare ≡ false → (1 ≤ size) × (size ≤ mostSlots) × (spare ≡ 0)
+limits-in size spare h =
     let both = both-false _ _ h in
     let range = not-outside 1 mostSlots size (both .0) in
     (range .0, range .1, eqb-true _ _ (not-false _ (both .1)))
 
-pub said-size : (kind size spare : ℕ) → 1 ≤ size → size ≤ mostSlots → spare ≡ 0 → badSize kind size spare ≡ false
+pub size-said : (κ : Kind) (n size spare : ℕ) → badSize κ n size spare ≡ false → (1 ≤ size) × (size ≤ mostSlots) × (spare ≡ 0)
 unfolding badSize
-said-size kind size spare l h z = simp (inside 1 mostSlots size l h, eq-eqb _ _ z)
+size-said Kind.Lock n size spare h = limits-in size spare h
+size-said Kind.Plain n size spare h = limits-in size spare h
+size-said Kind.Fast n size spare h = limits-in size spare h
 
 -- a start byte of a lock is a slot, that of a decision a proposal
-pub slot-said : (size x : ℕ) → badStart 1 size x ≡ false → x < size
-unfolding badStart
-slot-said size x h = omega (arith, leb-false size x h)
+abbrev pub StartSaid : Kind → ℕ → ℕ → Type 0
+StartSaid Kind.Lock size x = x < size
+StartSaid Kind.Plain size x = (1 ≤ x) × (x ≤ size)
+StartSaid Kind.Fast size x = (1 ≤ x) × (x ≤ size)
 
-pub said-slot : (size x : ℕ) → x < size → badStart 1 size x ≡ false
-unfolding badStart
-said-slot size x h = lt-leb _ _ h
-
-module _ (kind : ℕ) (decides : kind ≡ 1 → ⊥) (size x : ℕ) where
-  pub proposal-said : badStart kind size x ≡ false → (1 ≤ x) × (x ≤ size)
+module _ (n size spare j x : ℕ) where
+  pub start-said : (κ : Kind) → badStart κ n size spare j x ≡ false → StartSaid κ size x
   unfolding badStart
-  proposal-said h = not-outside 1 size x (rw (ne-eqb kind 1 decides) at h)
+  start-said Kind.Lock h = omega (arith, leb-false size x h)
+  start-said Kind.Plain h = not-outside 1 size x h
+  start-said Kind.Fast h = not-outside 1 size x h
 
-  pub said-proposal : 1 ≤ x → x ≤ size → badStart kind size x ≡ false
+  pub said-start : (κ : Kind) → StartSaid κ size x → badStart κ n size spare j x ≡ false
   unfolding badStart
-  said-proposal l h = rw (ne-eqb kind 1 decides) (inside 1 size x l h)
+  said-start Kind.Lock h = lt-leb _ _ h
+  said-start Kind.Plain h = inside 1 size x (h .0) (h .1)
+  said-start Kind.Fast h = inside 1 size x (h .0) (h .1)
 
 -- LIMITS
 
 pub record Limits (most kind n size spare : ℕ) : Type 0 where
   pub kindLow : 1 ≤ kind
-  pub kindHigh : kind ≤ 3
+  pub kindHigh : kind ≤ lastKind
   pub someone : 1 ≤ n
   pub few : n ≤ most
-  pub sizeLow : 1 ≤ size
-  pub sizeHigh : size ≤ mostSlots
-  pub spareZero : spare ≡ 0
+  pub sized : badSize (kindOf kind) n size spare ≡ false
 
 module _ (most kind n size spare : ℕ) where
   pub limits-said : setupLimits most kind n size spare ≡ 0 → Limits most kind n size spare
   limits-said h =
       let p = passed 4 _ _ h in
       let q = passed 3 _ _ (p .0) in
-      let k = kind-said kind (refuse-false 2 _ (q .0)) in
+      let k = not-outside 1 lastKind kind (refuse-false 2 _ (q .0)) in
       let m = not-outside 1 most n (q .1) in
-      let w = size-said kind size spare (p .1) in
-      record {
-        kindLow = k .0;
-        kindHigh = k .1;
-        someone = m .0;
-        few = m .1;
-        sizeLow = w .0;
-        sizeHigh = w .1;
-        spareZero = w .2;
-      }
+      record { kindLow = k .0; kindHigh = k .1; someone = m .0; few = m .1; sized = p .1 }
 
   pub said-limits : Limits most kind n size spare → setupLimits most kind n size spare ≡ 0
-  said-limits l =
-      simp (
-        said-kind kind (l .kindLow) (l .kindHigh),
-        inside 1 most n (l .someone) (l .few),
-        said-size kind size spare (l .sizeLow) (l .sizeHigh) (l .spareZero),
-      )
+  said-limits l = simp (inside 1 lastKind kind (l .kindLow) (l .kindHigh), inside 1 most n (l .someone) (l .few), l .sized)
+
+  pub limits-size : Limits most kind n size spare → (1 ≤ size) × (size ≤ mostSlots) × (spare ≡ 0)
+  limits-size l = size-said (kindOf kind) n size spare (l .sized)
 
 -- READING
+
+-- whether x is no start byte of the process with index j
+abbrev pub badAt : List ℕ → ℕ → ℕ → Bool
+badAt s = badStart (kindOf (byte 2 s)) (length (startBytes s)) (byte 4 s) (byte 5 s)
 
 -- all but the start bytes
 pub record Head (most : ℕ) (s : List ℕ) : Type 0 where
@@ -106,7 +94,7 @@ pub record Head (most : ℕ) (s : List ℕ) : Type 0 where
 
 pub record AcceptedSetup (most : ℕ) (s : List ℕ) : Type 0 where
   pub head : Head most s
-  pub good : any (badStart (byte 2 s) (byte 4 s)) (startBytes s) ≡ false
+  pub good : anyBadStart (kindOf (byte 2 s)) (byte 4 s) (byte 5 s) (startBytes s) ≡ false
 
 module _ (most : ℕ) (s : List ℕ) where
   pub head-said : headRefusal most s ≡ 0 → Head most s
@@ -144,30 +132,30 @@ module _ (most : ℕ) (s : List ℕ) where
   said-setup a = simp (said-head (a .head), a .good)
 
 -- what is read and what is left, by the refusal
-module _ (s : List ℕ) where
-  pub setup-accepted : setupRefusal mostProcesses s ≡ 0 → record { refusal = 0; setup = setupFields s } ≡ setupRead s
+module _ (most : ℕ) (s : List ℕ) where
+  pub setup-accepted : setupRefusal most s ≡ 0 → record { refusal = 0; setup = setupFields most s } ≡ setupRead most s
   unfolding setupRead
   setup-accepted e = simp e
 
-  pub setup-refused : (k : ℕ) → setupRefusal mostProcesses s ≡ k → (k ≡ 0 → ⊥) → record { refusal = k; setup = noSetup } ≡ setupRead s
+  pub setup-refused : (k : ℕ) → setupRefusal most s ≡ k → (k ≡ 0 → ⊥) → record { refusal = k; setup = noSetup most } ≡ setupRead most s
   unfolding setupRead
   setup-refused k e h = simp (e, if-refused k h)
 
-  pub rest-accepted : setupRefusal mostProcesses s ≡ 0 → (setupRest s ≡ drop (8 + byte 3 s) s) × (restStart s ≡ 8 + byte 3 s)
+  pub rest-accepted : setupRefusal most s ≡ 0 → (setupRest most s ≡ drop (8 + byte 3 s) s) × (restStart most s ≡ 8 + byte 3 s)
   unfolding setupRest restStart
   rest-accepted e = (simp e, simp e)
 
-  pub rest-refused : (k : ℕ) → setupRefusal mostProcesses s ≡ k → (k ≡ 0 → ⊥) → (setupRest s ≡ []) × (restStart s ≡ 0)
+  pub rest-refused : (k : ℕ) → setupRefusal most s ≡ k → (k ≡ 0 → ⊥) → (setupRest most s ≡ []) × (restStart most s ≡ 0)
   unfolding setupRest restStart
   rest-refused k e h = (simp (e, if-refused k h), simp (e, if-refused k h))
 
   -- of what a reader answered: its refusal is the table's, and where that is 0 its fields are the setup's
-  module _ (r : SetupRead) (e : r ≡ setupRead s) where
-    pub setup-refusal-read : setupRefusal mostProcesses s ≡ r .refusal
+  module _ (r : SetupRead) (e : r ≡ setupRead most s) where
+    pub setup-refusal-read : setupRefusal most s ≡ r .refusal
     unfolding setupRead
     setup-refusal-read = sym (ap (λ (x : SetupRead). x .refusal) e)
 
-    pub setup-fields-read : r .refusal ≡ 0 → r .setup ≡ setupFields s
+    pub setup-fields-read : r .refusal ≡ 0 → r .setup ≡ setupFields most s
     setup-fields-read h = ap (λ (x : SetupRead). x .setup) (e ∙ sym (setup-accepted (setup-refusal-read ∙ h)))
 
 -- START BYTES
@@ -205,28 +193,29 @@ module _ (s : List ℕ) (whole : 8 + byte 3 s ≤ length s) where
       ∙ zeros most (n + (j - n))
 
   -- start bytes that are good one by one are good together
-  pub said-starts : ((j : ℕ) → j < byte 3 s → badStart (byte 2 s) (byte 4 s) (byte (8 + j) s) ≡ false) → any (badStart (byte 2 s) (byte 4 s)) (startBytes s) ≡ false
+  pub said-starts : ((j : ℕ) → j < byte 3 s → badAt s j (byte (8 + j) s) ≡ false)
+      → anyBadStart (kindOf (byte 2 s)) (byte 4 s) (byte 5 s) (startBytes s) ≡ false
   said-starts h =
-      all-good (badStart (byte 2 s) (byte 4 s)) (startBytes s) (λ j inside.
+      all-good 0 (badAt s) (startBytes s) (λ j inside.
       let below : j < byte 3 s = omega (arith, start-count) in
-      rw (start-at j below) (h j below))
+      rw (zero-add j, start-at j below) (h j below))
 
 -- and of an accepted setup the start byte of row j is a good one
 module _ (most : ℕ) (s : List ℕ) (a : AcceptedSetup most s) (j : ℕ) (below : j < byte 3 s) where
-  pub start-good : badStart (byte 2 s) (byte 4 s) (byte (8 + j) s) ≡ false
+  pub start-good : badAt s j (byte (8 + j) s) ≡ false
   start-good =
-      rw (← start-at s (a .head .whole) j below)
-      (none-bad (badStart (byte 2 s) (byte 4 s)) (startBytes s) (a .good) j (omega (arith, start-count s (a .head .whole))))
+      let whole = a .head .whole in
+      rw (zero-add j, start-at s whole j below) at (none-bad 0 (badAt s) (startBytes s) (a .good) j (omega (arith, start-count s whole)))
 
 -- the setup's fields are of their widths
-pub delta-small : (s : List ℕ) → AllBytes s → setupFields s .delta ≤ 65_535
-delta-small s h = omega (arith, byte-small s h 6, byte-small s h 7)
+pub delta-small : (most : ℕ) (s : List ℕ) → AllBytes s → setupFields most s .delta ≤ 65_535
+delta-small most s h = omega (arith, byte-small s h 6, byte-small s h 7)
 
 -- WRITING
 
 pub record WritableSetup (most kind size : ℕ) (starts : List ℕ) (room : ℕ) : Type 0 where
   pub limits : Limits most kind (length starts) size 0
-  pub good : any (badStart kind size) starts ≡ false
+  pub good : anyBadStart (kindOf kind) size 0 starts ≡ false
   pub fits : 8 + length starts ≤ room
 
 module _ (most kind size : ℕ) (starts : List ℕ) (room : ℕ) where

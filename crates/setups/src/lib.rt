@@ -5,13 +5,16 @@ ghost use Prim.Native.Nat.{_+_, _≤_};
 ghost use lib.ListN.{length};
 ghost use denote.Ref.{ptr};
 ghost use Rattle.terms.specs.Limits.{mostProcesses};
-ghost use Rattle.terms.specs.Refusal.{outside, any};
-ghost use Rattle.records.specs.Record.{Wrote};
-ghost use Rattle.setups.specs.Setup.{badKind, badSize, badStart, setupLimits, headRefusal, startsOf, noSetup, setupRead, setupRest, restStart, setupBytes, setupWriteRefusal};
+ghost use Rattle.setups.specs.Setup.{outOfLimits, badSize, noProposal, badStart, anyBadStart, setupLimits, headRefusal};
+ghost use Rattle.setups.specs.Setup.{startsOf, noSetup, setupRead, setupRest, restStart, setupWriteRefusal, WroteSetup};
+use kinds::Kind;
 use records::Written;
 use terms::Trace;
 
 const MARK: [u8; 2] = [0x4F, 0x53];
+
+// The places of the start bytes, one for each process that there may be.
+pub const PLACES: usize = Trace::PROCESSES as usize;
 
 // `size` is ℓ in kind 1 and b in the others; `starts` has 0 in the places beyond `processes`.
 pub struct Setup {
@@ -19,7 +22,7 @@ pub struct Setup {
     pub processes: u8,
     pub size: u8,
     pub delta: u16,
-    pub starts: [u8; 32],
+    pub starts: [u8; PLACES],
 }
 
 // A setup, or the number of its refusal with every field 0.
@@ -34,38 +37,52 @@ fn wide(x: u8) -> usize
     x as usize
 }
 
-// Whether x is not one of low .. high.
-fn is_outside(low: usize, high: usize, x: usize) -> bool
-    ensures { λ r. ⌜ r ≡ outside low high x ⌝ }
+fn number(x: u8) -> u32
+    ensures { λ r. ⌜ r ≡ x ⌝ }
 {
-    x < low || high < x
+    x as u32
 }
 
-// BY KIND: 3, 5 and 6
-
-fn is_bad_kind(kind: u8) -> bool
-    ensures { λ r. ⌜ r ≡ badKind kind ⌝ }
-{
-    is_outside(1, 3, kind as usize)
-}
+// BY KIND: 5 and 6
 
 // ℓ or b, and the zero byte.
-fn is_bad_size(kind: u8, size: u8, spare: u8) -> bool
-    ensures { λ r. ⌜ r ≡ badSize kind size spare ⌝ }
+fn is_out_of_limits(size: u32, spare: u32) -> bool
+    ensures { λ r. ⌜ r ≡ outOfLimits size spare ⌝ }
 {
-    if is_outside(1, Trace::SLOTS as usize, size as usize) {
+    if size < 1 {
+        return true;
+    }
+    if Trace::SLOTS < size {
         return true;
     }
     spare != 0
 }
 
-fn is_bad_start(kind: u8, size: u8, x: u8) -> bool
-    ensures { λ r. ⌜ r ≡ badStart kind size x ⌝ }
+fn is_bad_size(kind: Kind, n: usize, size: u32, spare: u32) -> bool
+    ensures { λ r. ⌜ r ≡ badSize kind n size spare ⌝ }
 {
-    if kind == 1 {
-        return size <= x;
+    match kind {
+        Kind::Lock => is_out_of_limits(size, spare),
+        Kind::Plain => is_out_of_limits(size, spare),
+        Kind::Fast => is_out_of_limits(size, spare),
     }
+}
+
+fn is_no_proposal(size: u8, x: u8) -> bool
+    ensures { λ r. ⌜ r ≡ noProposal size x ⌝ }
+{
     x < 1 || size < x
+}
+
+// The start byte x of the process with index j.
+fn is_bad_start(kind: Kind, n: usize, size: u8, spare: u8, j: usize, x: u8) -> bool
+    ensures { λ r. ⌜ r ≡ badStart kind n size spare j x ⌝ }
+{
+    match kind {
+        Kind::Lock => size <= x,
+        Kind::Plain => is_no_proposal(size, x),
+        Kind::Fast => is_no_proposal(size, x),
+    }
 }
 
 fn either(a: bool, b: bool) -> bool
@@ -75,29 +92,33 @@ fn either(a: bool, b: bool) -> bool
 }
 
 // Whether some byte of s is no start byte. It stops at none, so that many are looked at at once.
-fn any_bad_start(kind: u8, size: u8, s: &[u8]) -> bool
-    ensures { λ r. ⌜ r ≡ any (badStart kind size) (now (s .entry)) ⌝ }
+fn any_bad_start(kind: Kind, size: u8, spare: u8, s: &[u8]) -> bool
+    ensures { λ r. ⌜ r ≡ anyBadStart kind size spare (now (s .entry)) ⌝ }
 {
+    let n = s.len();
     let mut bad = false;
     let mut i = 0;
-    while i < s.len() {
-        bad = either(bad, is_bad_start(kind, size, s[i]));
+    while i < n {
+        bad = either(bad, is_bad_start(kind, n, size, spare, i, s[i]));
         i += 1;
     }
     bad
 }
 
 // 3, 4 and 5: what the reader and the writer ask alike.
-fn setup_limits(kind: u8, n: usize, size: u8, spare: u8) -> u32
-    ensures { λ r. ⌜ r ≡ setupLimits mostProcesses kind n size spare ⌝ }
+fn setup_limits(most: u32, kind: u32, n: usize, size: u32, spare: u32) -> u32
+    ensures { λ r. ⌜ r ≡ setupLimits most kind n size spare ⌝ }
 {
-    if is_bad_kind(kind) {
+    if kinds::is_bad_kind(kinds::LAST, kind) {
         return 3;
     }
-    if is_outside(1, Trace::PROCESSES as usize, n) {
+    if n < 1 {
         return 4;
     }
-    if is_bad_size(kind, size, spare) {
+    if (most as usize) < n {
+        return 4;
+    }
+    if is_bad_size(kinds::kind_of(kind), n, size, spare) {
         return 5;
     }
     0
@@ -106,8 +127,8 @@ fn setup_limits(kind: u8, n: usize, size: u8, spare: u8) -> u32
 // READING
 
 // 1 (8 bytes), 2, 3, 4, 5, 1 (8 + n): all that a setup is refused for but its start bytes.
-fn head_refusal(trace: &[u8]) -> u32
-    ensures { λ r. ⌜ r ≡ headRefusal mostProcesses (now (trace .entry)) ⌝ }
+fn head_refusal(most: u32, trace: &[u8]) -> u32
+    ensures { λ r. ⌜ r ≡ headRefusal most (now (trace .entry)) ⌝ }
 {
     if trace.len() < 8 {
         return 1;
@@ -119,7 +140,13 @@ fn head_refusal(trace: &[u8]) -> u32
         return 2;
     }
     let n = wide(trace[3]);
-    let no = setup_limits(trace[2], n, trace[4], trace[5]);
+    let no = setup_limits(
+        most,
+        number(trace[2]),
+        n,
+        number(trace[4]),
+        number(trace[5]),
+    );
     if no != 0 {
         return no;
     }
@@ -129,30 +156,30 @@ fn head_refusal(trace: &[u8]) -> u32
     0
 }
 
-// The start bytes in 32 places, once each is in its range.
-struct Starts {
+// The start bytes in their places, once each is in its range.
+struct StartsRead {
     refusal: u32,
-    places: [u8; 32],
+    places: [u8; PLACES],
 }
 
-fn starts_of(kind: u8, size: u8, s: &[u8]) -> Starts
+fn starts_of(kind: Kind, size: u8, spare: u8, s: &[u8]) -> StartsRead
     requires { ⌜ length (now s) ≤ mostProcesses ⌝ }
-    ensures { λ r. ⌜ r ≡ startsOf kind size (now (s .entry)) ⌝ }
+    ensures { λ r. ⌜ r ≡ startsOf mostProcesses kind size spare (now (s .entry)) ⌝ }
 {
-    if any_bad_start(kind, size, s) {
-        return Starts {
+    if any_bad_start(kind, size, spare, s) {
+        return StartsRead {
             refusal: 6,
-            places: [0; 32],
+            places: [0; PLACES],
         };
     }
-    let mut places = [0u8; 32];
+    let mut places = [0u8; PLACES];
     bytes::copy(s, &mut places);
-    Starts { refusal: 0, places }
+    StartsRead { refusal: 0, places }
 }
 
 impl SetupRead {
     fn refused(no: u32) -> Self
-        ensures { λ r. ⌜ r ≡ record { refusal = no; setup = noSetup } ⌝ }
+        ensures { λ r. ⌜ r ≡ record { refusal = no; setup = noSetup mostProcesses } ⌝ }
     {
         SetupRead {
             refusal: no,
@@ -161,7 +188,7 @@ impl SetupRead {
                 processes: 0,
                 size: 0,
                 delta: 0,
-                starts: [0; 32],
+                starts: [0; PLACES],
             },
         }
     }
@@ -169,16 +196,16 @@ impl SetupRead {
 
 // The setup that a trace begins with.
 pub fn read_setup(trace: &[u8]) -> SetupRead
-    ensures { λ r. ⌜ r ≡ setupRead (now (trace .entry)) ⌝ }
+    ensures { λ r. ⌜ r ≡ setupRead mostProcesses (now (trace .entry)) ⌝ }
 {
-    let no = head_refusal(trace);
+    let no = head_refusal(Trace::PROCESSES, trace);
     if no != 0 {
         return SetupRead::refused(no);
     }
     let kind = trace[2];
     let size = trace[4];
     let end = 8 + wide(trace[3]);
-    let read = starts_of(kind, size, &trace[8..end]);
+    let read = starts_of(kinds::kind_of(number(kind)), size, trace[5], &trace[8..end]);
     let bad = read.refusal;
     if bad != 0 {
         return SetupRead::refused(bad);
@@ -198,8 +225,8 @@ pub fn read_setup(trace: &[u8]) -> SetupRead
 
 // The rest of a trace after its setup; on refusal the empty part at the trace's beginning.
 pub fn setup_rest(trace: &[u8]) -> &[u8]
-    ensures { λ r. ⌜ now r ≡ setupRest (now (trace .entry)) ⌝ }
-    ensures { λ r. ⌜ ptr r ≡ (ptr (trace .entry) .0, restStart (now (trace .entry)) + ptr (trace .entry) .1) ⌝ }
+    ensures { λ r. ⌜ now r ≡ setupRest mostProcesses (now (trace .entry)) ⌝ }
+    ensures { λ r. ⌜ ptr r ≡ (ptr (trace .entry) .0, restStart mostProcesses (now (trace .entry)) + ptr (trace .entry) .1) ⌝ }
 {
     let read = read_setup(trace);
     if read.refusal != 0 {
@@ -212,15 +239,15 @@ pub fn setup_rest(trace: &[u8]) -> &[u8]
 // WRITING
 
 // 3, 4, 5, 6, 19 of a setup that is to be written to a buffer of `room` bytes.
-fn setup_write_refusal(kind: u8, size: u8, starts: &[u8], room: usize) -> u32
-    ensures { λ r. ⌜ r ≡ setupWriteRefusal mostProcesses kind size (now (starts .entry)) room ⌝ }
+fn setup_write_refusal(most: u32, kind: u32, size: u32, starts: &[u8], room: usize) -> u32
+    ensures { λ r. ⌜ r ≡ setupWriteRefusal most kind size (now (starts .entry)) room ⌝ }
 {
     let n = starts.len();
-    let no = setup_limits(kind, n, size, 0);
+    let no = setup_limits(most, kind, n, size, 0);
     if no != 0 {
         return no;
     }
-    if any_bad_start(kind, size, starts) {
+    if any_bad_start(kinds::kind_of(kind), size as u8, 0, starts) {
         return 6;
     }
     if room < 8 + n {
@@ -230,10 +257,10 @@ fn setup_write_refusal(kind: u8, size: u8, starts: &[u8], room: usize) -> u32
 }
 
 // Writes a setup of as many processes as start bytes are lent, over the buffer's first bytes.
-pub fn write_setup(kind: u8, size: u8, delta: u16, starts: &[u8], buffer: &mut [u8]) -> Written
-    ensures { λ r. ⌜ Wrote (setupWriteRefusal mostProcesses kind size (now (starts .entry)) (length (now (buffer .entry)))) (setupBytes kind size delta (now (starts .entry))) (now (buffer .entry)) r (now (buffer .exit)) ⌝ }
+pub fn write_setup(kind: u32, size: u32, delta: u16, starts: &[u8], buffer: &mut [u8]) -> Written
+    ensures { λ r. ⌜ WroteSetup mostProcesses kind size delta (now (starts .entry)) (now (buffer .entry)) r (now (buffer .exit)) ⌝ }
 {
-    let no = setup_write_refusal(kind, size, starts, buffer.len());
+    let no = setup_write_refusal(Trace::PROCESSES, kind, size, starts, buffer.len());
     if no != 0 {
         return Written {
             refusal: no,
@@ -242,7 +269,16 @@ pub fn write_setup(kind: u8, size: u8, delta: u16, starts: &[u8], buffer: &mut [
     }
     let n = starts.len();
     let d = terms::u16_bytes(delta);
-    let head = [MARK[0], MARK[1], kind, n as u8, size, 0, d[0], d[1]];
+    let head = [
+        MARK[0],
+        MARK[1],
+        kind as u8,
+        n as u8,
+        size as u8,
+        0,
+        d[0],
+        d[1],
+    ];
     bytes::copy(&head, buffer);
     bytes::copy(starts, &mut buffer[8..]);
     Written {

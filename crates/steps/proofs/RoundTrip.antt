@@ -14,7 +14,7 @@ use Rattle.records.specs.Record.{byte, Wrote}
 use Rattle.records.proofs.RecordLaws.{byte-small, wrote-whole, wrote-said}
 use Rattle.steps.specs.declared.Step.{Step}
 use Rattle.steps.specs.declared.StepRead.{StepRead}
-use Rattle.steps.specs.Step.{stepRefusal, stepRead, stepFields, stepBytes, stepWriteRefusal}
+use Rattle.steps.specs.Step.{stepRefusal, stepRead, stepFields, stepBytes, stepWriteRefusal, WroteStep}
 use Rattle.steps.proofs.StepLaws.{InLimits, AcceptedStep, step-said, said-step, step-accepted, step-write-said, said-step-write}
 
 -- a step within the limits, written before any bytes, reads back
@@ -29,7 +29,7 @@ module _ (most : ℕ) (k : Step) (rest : List ℕ) (limits : InLimits most k) wh
 
 -- from the writer's own promise, over any buffer
 module _ (k : Step) (before after : List ℕ) (r : Written)
-    (w : Wrote (stepWriteRefusal mostProcesses k (length before)) (stepBytes k) before r after)
+    (w : WroteStep mostProcesses k before r after)
     (ok : r .refusal ≡ 0) where
   pub written-step-back : stepRead mostProcesses after ≡ record { refusal = 0; step = k }
   written-step-back =
@@ -41,7 +41,8 @@ module _ (most : ℕ) (s : List ℕ) (bytes : AllBytes s) (ok : stepRefusal most
   pub step-again : stepBytes (stepRead most s .step) ≡ take 8 s
   step-again =
       let h = step-said most s ok in
-      let tick = little-bytes-of (byte 4 s ∷ byte 5 s ∷ byte 6 s ∷ byte 7 s ∷ []) (byte-small s bytes 4, (byte-small s bytes 5, (byte-small s bytes 6, (byte-small s bytes 7, tt)))) in
+      let small = byte-small s bytes in
+      let tick = little-bytes-of (byte 4 s ∷ byte 5 s ∷ byte 6 s ∷ byte 7 s ∷ []) (small 4, (small 5, (small 6, (small 7, tt)))) in
       let fields : stepRead most s .step ≡ stepFields s = ap (λ (x : StepRead). x .step) (sym (step-accepted most s ok)) in
       let same : stepBytes (stepFields s) ≡ elements 8 0 s = cc in
       rw fields (same ∙ sym (take-elements 8 0 s (h .eight)))

@@ -9,7 +9,8 @@ use Rattle.terms.specs.Limits.{topTick}
 use Rattle.terms.specs.Numbers.{processOf}
 use Rattle.terms.specs.Refusal.{refuse, _then_, outside, ifAccepted}
 use Rattle.terms.specs.Little.{littleOf, littleBytes}
-use Rattle.records.specs.Record.{byte, marked}
+use Rattle.records.specs.declared.Written.{Written}
+use Rattle.records.specs.Record.{byte, marked, Wrote}
 use Rattle.steps.specs.declared.Step.{Step}
 use Rattle.steps.specs.declared.StepRead.{StepRead}
 
@@ -51,3 +52,7 @@ stepBytes k = stepMark ++ (k .process .0 ∷ k .event ∷ []) ++ littleBytes 4 (
 -- 11, 12, 13, 19, for a buffer of `room` bytes
 unfoldable pub stepWriteRefusal : ℕ → Step → ℕ → ℕ
 stepWriteRefusal most k room = stepLimits most k then refuse 19 (ltb room 8)
+
+-- what the writer answers, and the buffer before and after
+abbrev pub WroteStep : ℕ → Step → List ℕ → Written → List ℕ → Type 0
+WroteStep most k before r after = Wrote (stepWriteRefusal most k (length before)) (stepBytes k) before r after

@@ -1,10 +1,8 @@
 // The step record: mark, process, event, tick. 8 bytes.
 ghost use mathlib.Core.Path.{_≡_};
-ghost use lib.ListN.{length};
 ghost use Rattle.terms.specs.Limits.{mostProcesses};
 ghost use Rattle.terms.specs.Numbers.{processOf};
-ghost use Rattle.records.specs.Record.{Wrote};
-ghost use Rattle.steps.specs.Step.{noStep, stepLimits, stepRead, stepBytes, stepWriteRefusal};
+ghost use Rattle.steps.specs.Step.{noStep, stepLimits, stepRead, stepWriteRefusal, WroteStep};
 use records::Written;
 use terms::ProcessNumber;
 use terms::Trace;
@@ -14,7 +12,7 @@ const MARK: [u8; 2] = [0x4F, 0x54];
 // Event 0 is a move, 1 a crash.
 pub struct Step {
     pub process: ProcessNumber,
-    pub event: u8,
+    pub event: u32,
     pub tick: u32,
 }
 
@@ -79,7 +77,7 @@ pub fn read_step_of(most: u32, s: &[u8]) -> StepRead
     }
     let step = Step {
         process: process_of(s[2]),
-        event: s[3],
+        event: s[3] as u32,
         tick: terms::u32_of(s[4], s[5], s[6], s[7]),
     };
     let no = step_limits(most, step);
@@ -112,7 +110,7 @@ fn step_write_refusal(step: Step, room: usize) -> u32
 
 // Writes a step over the buffer's first bytes.
 pub fn write_step(step: Step, buffer: &mut [u8]) -> Written
-    ensures { λ r. ⌜ Wrote (stepWriteRefusal mostProcesses step (length (now (buffer .entry)))) (stepBytes step) (now (buffer .entry)) r (now (buffer .exit)) ⌝ }
+    ensures { λ r. ⌜ WroteStep mostProcesses step (now (buffer .entry)) r (now (buffer .exit)) ⌝ }
 {
     let no = step_write_refusal(step, buffer.len());
     if no != 0 {
@@ -126,7 +124,7 @@ pub fn write_step(step: Step, buffer: &mut [u8]) -> Written
         MARK[0],
         MARK[1],
         step.process.0 as u8,
-        step.event,
+        step.event as u8,
         t[0],
         t[1],
         t[2],

@@ -19,7 +19,8 @@ pub copied-two : (a b buffer first second : List ℕ) → first ≡ take (length
     → second ≡ take (length b) b ++ drop (length b) (take (length first - length a) (drop (length a) first))
     → putMid (length a) (length first - length a) first second ≡ overlay (a ++ b) buffer
 copied-two a b buffer first second p q =
-    let after : drop (length first - length a) (drop (length a) first) ≡ [] = drop-of-length-le (drop (length a) first) {i = length first - length a} (omega (arith, length-drop (length a) first)) in
+    let n = length first - length a in
+    let after : drop n (drop (length a) first) ≡ [] = drop-of-length-le (drop (length a) first) {i = n} (omega (arith, length-drop (length a) first)) in
     let front : first ≡ overlay a buffer = p ∙ copied a buffer in
     let rest : second ≡ overlay b (drop (length a) buffer) = q ∙ rw (take-length, part-to-end, front, drop-append-seam) in
     rw (after, append-nil, rest, front, take-append-seam, length-append, ← drop-drop, append-assoc)

@@ -10,7 +10,7 @@ use borrow.Author.Tests.{ltb-false, le-ltb}
 use lib.ListN.{length, getD, drop, drop-of-length-le}
 use lib.Seq.{drop-cons}
 use lib.Dec.{ltb}
-use Rattle.terms.specs.Refusal.{refuse, _then_, ifAccepted, outside, any}
+use Rattle.terms.specs.Refusal.{refuse, _then_, ifAccepted, outside, anyFrom}
 
 -- a test that accepts hands on, and one that refuses decides
 pub then-on : (a b : ℕ) → a ≡ 0 → (a then b) ≡ b
@@ -59,9 +59,9 @@ not-outside low high x e =
     (ltb-false x low (both .0), ltb-false high x (both .1))
 
 -- of the list from index i on some x is bad: the one at i, or a later one; none is past the end
-module _ (bad : ℕ → Bool) (s : List ℕ) (i : ℕ) where
-  pub any-next : i < length s → any bad (drop i s) ≡ (bad (getD s i 0) || any bad (drop (i + 1) s))
+module _ (bad : ℕ → ℕ → Bool) (s : List ℕ) (i : ℕ) where
+  pub any-next : i < length s → anyFrom i bad (drop i s) ≡ (bad i (getD s i 0) || anyFrom (i + 1) bad (drop (i + 1) s))
   any-next h = rw (add-one, drop-cons s i 0)
 
-  pub any-none : length s ≤ i → any bad (drop i s) ≡ false
+  pub any-none : length s ≤ i → anyFrom i bad (drop i s) ≡ false
   any-none h = rw (drop-of-length-le s h)

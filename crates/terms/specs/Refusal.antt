@@ -24,7 +24,7 @@ ifAccepted (suc k) yea nay = nay
 abbrev pub outside : ℕ → ℕ → ℕ → Bool
 outside low high x = ltb x low || ltb high x
 
--- some x of a list is bad
-abbrev pub any : (ℕ → Bool) → List ℕ → Bool
-any bad [] = false
-any bad (x ∷ xs) = bad x || any bad xs
+-- some x of a list is bad at its index; the list's first has the index i
+abbrev pub anyFrom : ℕ → (ℕ → ℕ → Bool) → List ℕ → Bool
+anyFrom i bad [] = false
+anyFrom i bad (x ∷ xs) = bad i x || anyFrom (suc i) bad xs

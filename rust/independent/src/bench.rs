@@ -284,16 +284,16 @@ mod tests {
     use super::*;
     use crate::{write_setup, write_step};
 
-    fn trace(kind: u8, size: u8, starts: &[u8], steps: &[(u8, u32)]) -> Vec<u8> {
+    fn trace(kind: u32, size: u32, starts: &[u8], steps: &[(u8, u32)]) -> Vec<u8> {
         let mut bytes = vec![0; 8 + starts.len()];
         write_setup(&mut bytes, kind, size, 2, starts).unwrap();
         for &(process, tick) in steps {
-            push(&mut bytes, process, 0, tick);
+            push(&mut bytes, process.into(), 0, tick);
         }
         bytes
     }
 
-    fn push(bytes: &mut Vec<u8>, process: u8, event: u8, tick: u32) {
+    fn push(bytes: &mut Vec<u8>, process: u32, event: u32, tick: u32) {
         let mut card = [0; STEP_SIZE];
         write_step(&mut card, process, event, tick).unwrap();
         bytes.extend(card);

@@ -101,16 +101,18 @@ pub fn read_step(bytes: &[u8]) -> Result<Step, Refusal> {
 /// Writes a setup of as many processes as start bytes are lent; gives its length.
 pub fn write_setup(
     buffer: &mut [u8],
-    kind: u8,
-    size: u8,
+    kind: u32,
+    size: u32,
     delta: u16,
     starts: &[u8],
 ) -> Result<usize, Refusal> {
+    let kind = u8::try_from(kind).map_err(|_| Refusal::Kind)?;
     let the_kind = Kind::from_byte(kind).ok_or(Refusal::Kind)?;
     let n = process_count(starts.len())?;
-    if !(1..=REGISTERS as u8).contains(&size) {
+    if !(1..=REGISTERS as u32).contains(&size) {
         return Err(Refusal::Size);
     }
+    let size = size as u8;
     if !the_kind.starts_fit(starts, size) {
         return Err(Refusal::Start);
     }
@@ -124,11 +126,16 @@ pub fn write_setup(
 }
 
 /// Writes a step; gives its length.
-pub fn write_step(buffer: &mut [u8], process: u8, event: u8, tick: u32) -> Result<usize, Refusal> {
-    if !(1..=PROCESSES as u8).contains(&process) {
+pub fn write_step(
+    buffer: &mut [u8],
+    process: u32,
+    event: u32,
+    tick: u32,
+) -> Result<usize, Refusal> {
+    if !(1..=PROCESSES as u32).contains(&process) {
         return Err(Refusal::Process);
     }
-    if event > Event::Crash as u8 {
+    if event > Event::Crash as u32 {
         return Err(Refusal::Event);
     }
     if tick > TOP_TICK {
@@ -136,7 +143,7 @@ pub fn write_step(buffer: &mut [u8], process: u8, event: u8, tick: u32) -> Resul
     }
     let record = buffer.first_chunk_mut::<STEP_SIZE>().ok_or(Refusal::BufferShort)?;
     let [t0, t1, t2, t3] = tick.to_le_bytes();
-    *record = [STEP_MARK[0], STEP_MARK[1], process, event, t0, t1, t2, t3];
+    *record = [STEP_MARK[0], STEP_MARK[1], process as u8, event as u8, t0, t1, t2, t3];
     Ok(STEP_SIZE)
 }
 
@@ -248,10 +255,14 @@ mod tests {
         let mut buffer = [9; 9];
         for (kind, size, starts, refusal) in [
             (0, 0, &[][..], Refusal::Kind),
+            (257, 2, &[1, 1], Refusal::Kind),
+            (u32::MAX, 2, &[1, 1], Refusal::Kind),
             (1, 0, &[], Refusal::Processes),
             (1, 0, &[0; 33], Refusal::Processes),
             (1, 0, &[9, 9], Refusal::Size),
             (1, 9, &[9, 9], Refusal::Size),
+            (1, 258, &[1, 1], Refusal::Size),
+            (1, 65_538, &[1, 1], Refusal::Size),
             (1, 1, &[0, 1], Refusal::Start),
             (2, 8, &[8, 0], Refusal::Start),
             (2, 8, &[8, 1], Refusal::BufferShort),
@@ -290,7 +301,11 @@ mod tests {
         for (process, event, tick, refusal) in [
             (0, 2, TOP_TICK + 1, Refusal::Process),
             (33, 2, TOP_TICK + 1, Refusal::Process),
+            (257, 0, 0, Refusal::Process),
+            (u32::MAX, 0, 0, Refusal::Process),
             (1, 2, TOP_TICK + 1, Refusal::Event),
+            (1, 256, 0, Refusal::Event),
+            (1, 65_537, 0, Refusal::Event),
             (1, 1, TOP_TICK + 1, Refusal::Tick),
             (1, 1, TOP_TICK, Refusal::BufferShort),
         ] {

@@ -73,7 +73,8 @@ impl Walk {
         }
         self.bytes.clear();
         self.bytes.resize(8 + n as usize, 0);
-        write_setup(&mut self.bytes, kind, size, delta, &starts[..n as usize]).unwrap();
+        let starts = &starts[..n as usize];
+        write_setup(&mut self.bytes, kind.into(), size.into(), delta, starts).unwrap();
         let setup = read_setup(&self.bytes).unwrap();
         self.bench = Some(Bench::new(&setup));
         (self.kind, self.n, self.delta, self.steps) = (kind, n, delta as u32, 0);
@@ -210,7 +211,7 @@ impl Walk {
 
     fn push(&mut self, process: u8, event: Event, tick: u32) {
         let mut card = [0; STEP_SIZE];
-        write_step(&mut card, process, event as u8, tick).unwrap();
+        write_step(&mut card, process.into(), event as u32, tick).unwrap();
         self.bench.as_mut().unwrap().step(&card).expect("the walk adds accepted steps only");
         self.bytes.extend(card);
         self.steps += 1;
@@ -294,12 +295,12 @@ pub fn endless(random: &mut Random, [kind, n, size]: [u8; 3], steps: usize, cras
     let first = (kind != 1) as u8;
     let starts: Vec<u8> = (0..n).map(|_| first + random.below(size as u64) as u8).collect();
     let mut trace = vec![0; 8 + n as usize];
-    write_setup(&mut trace, kind, size, 1, &starts).unwrap();
+    write_setup(&mut trace, kind.into(), size.into(), 1, &starts).unwrap();
     let mut bench = Bench::new(&read_setup(&trace).unwrap());
     let (mut tick, mut made) = (0, 0);
     while made < steps {
-        let process = random.between(1, n as u32) as u8;
-        let event = (process > 1 && random.once_in(crash)) as u8;
+        let process = random.between(1, n as u32);
+        let event = (process > 1 && random.once_in(crash)) as u32;
         let at_put = bench.states()[process as usize - 1].place == Place::Put;
         let ahead = match (kind, at_put) {
             (2 | 3, true) => 2,

@@ -7,4 +7,4 @@ returns : tie.Need-returns
 returns c = cc
 
 pub ghindulza-read-step-spec : {M : Type 1} → statement M
-ghindulza-read-step-spec = tie.close (tie.spec (λ c κs. search needs) (λ c. search needs) returns)
+ghindulza-read-step-spec = tie.close (tie.spec (λ c κs. search needs) returns)

@@ -13,7 +13,7 @@ use Rattle.listing.proofs.put_lines.Tie as tie
 
 abbrev Inv-loop : tie.InvT-loop
 Inv-loop report n at text₀ next₀ j₀ text next j =
-    (j ≤ n) × (length text ≡ length text₀) × Put (lineBytes * j) at (processLines report j) text₀ next text
+    Put (lineBytes * j) at (processLines report j) text₀ next text × (j ≤ n) × (length text ≡ length text₀)
 
 abbrev μ-loop : tie.MeasureT-loop
 μ-loop report n at text₀ next₀ j₀ text next j = n - j
@@ -22,7 +22,7 @@ loop-holds : tie.Need-loop-holds Inv-loop μ-loop
 unfolding processLines
 loop-holds c =
     let start = c .before in
-    (omega arith, refl, put-none (start .args .at) (start .args .text .now) (omega arith))
+    (put-none (start .args .at) (start .args .text .now) (omega arith), omega arith, refl)
 
 loop-again : tie.Need-loop-again Inv-loop μ-loop
 loop-again c =
@@ -30,16 +30,16 @@ loop-again c =
     let looping = line .before .before .before in
     let start = looping .before .before in
     let j = looping .loop .j in
-    let both = put-then (looping .loop .inv .2) (line .put-line .ensures) in
+    let both = put-then (looping .loop .inv .0) (line .put-line .ensures) in
     let more = put-is both (lines-more (start .args .report .now) j) in
-    (omega arith, omega arith, put-within more (lineBytes * (j + 1)) (omega arith))
+    (put-within more (lineBytes * (j + 1)) (omega arith), omega arith, omega arith)
 
 returns : tie.Need-returns Inv-loop μ-loop
 returns c =
     let looping = c .before in
     let start = looping .before .before in
     let all : looping .loop .j ≡ start .args .n = omega arith in
-    rw (← all) (looping .loop .inv .2)
+    rw (← all) (looping .loop .inv .0)
 
 pub put-lines-spec : {M : Type 1} → statement M
 put-lines-spec =

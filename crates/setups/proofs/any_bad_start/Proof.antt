@@ -6,17 +6,18 @@ use native.Mathlib.Omega.{arith}
 use borrow.Author.Needs.{needs}
 use lib.ListN.{length, drop, getD}
 use denote.Ref.{now}
-use Rattle.terms.specs.Refusal.{any}
+use Rattle.terms.specs.Refusal.{anyFrom}
 use Rattle.terms.proofs.RefusalLaws.{any-next, any-none}
 use Rattle.setups.specs.Setup.{badStart}
 use Rattle.setups.proofs.any_bad_start.Statement.{statement}
 use Rattle.setups.proofs.any_bad_start.Tie as tie
 
 abbrev Inv-loop : tie.InvT-loop
-Inv-loop kind size s bad₀ i₀ bad i = (i ≤ length s) × (any (badStart kind size) s ≡ (bad || any (badStart kind size) (drop i s)))
+Inv-loop kind size spare s n₀ bad₀ i₀ bad i =
+    (i ≤ length s) × (anyFrom 0 (badStart kind (length s) size spare) s ≡ (bad || anyFrom i (badStart kind (length s) size spare) (drop i s)))
 
 abbrev μ-loop : tie.MeasureT-loop
-μ-loop kind size s bad₀ i₀ bad i = length s - i
+μ-loop kind size spare s n₀ bad₀ i₀ bad i = length s - i
 
 loop-holds : tie.Need-loop-holds Inv-loop μ-loop
 loop-holds c = (omega arith, refl)
@@ -25,14 +26,16 @@ loop-again : tie.Need-loop-again Inv-loop μ-loop
 loop-again c =
     let a = c .before .before .before .before .before .before .args in
     let l = c .before .before .before .before .loop in
-    let bad = badStart (a .kind) (a .size) in
-    (omega arith, cc (any-next bad (now (a .s)) (l .i) (omega arith), or-assoc (l .bad) (bad (getD (now (a .s)) (l .i) 0)) (any bad (drop (l .i + 1) (now (a .s))))))
+    let s = now (a .s) in
+    let bad = badStart (a .kind) (length s) (a .size) (a .spare) in
+    (omega arith, cc (any-next bad s (l .i) (omega arith), or-assoc (l .bad) (bad (l .i) (getD s (l .i) 0)) (anyFrom (l .i + 1) bad (drop (l .i + 1) s))))
 
 returns : tie.Need-returns Inv-loop μ-loop
 returns c =
     let a = c .before .before .before .args in
-    let bad = badStart (a .kind) (a .size) in
-    cc (any-none bad (now (a .s)) (c .before .loop .i) (omega arith), or-false (c .before .loop .bad))
+    let s = now (a .s) in
+    let bad = badStart (a .kind) (length s) (a .size) (a .spare) in
+    cc (any-none bad s (c .before .loop .i) (omega arith), or-false (c .before .loop .bad))
 
 pub any-bad-start-spec : {M : Type 1} → statement M
 any-bad-start-spec =

@@ -1,20 +1,31 @@
--- `is_bad_start` meets its contract, in kind 1 and in the others. Assumes nothing.
-use borrow.Author.Tests.{eq-eqb, ne-eqb, lt-ltb, le-ltb}
+-- `is_bad_start` meets its contract, kind by kind. Assumes nothing.
+use mathlib.Core.Path.{refl}
+use borrow.Author.Needs.{needs}
 use Rattle.setups.specs.Setup.{badStart}
 use Rattle.setups.proofs.is_bad_start.Statement.{statement}
 use Rattle.setups.proofs.is_bad_start.Tie as tie
 
 returns : tie.Need-returns
 unfolding badStart
-returns c = simp (eq-eqb _ _ (c .if1 .taken))
+returns c = rw (c .enum-told .given .1) refl
 
 returns-2 : tie.Need-returns-2
 unfolding badStart
-returns-2 c = simp (ne-eqb _ _ (c .before .if1 .left), lt-ltb _ _ (c .if2 .taken))
+returns-2 c = rw (c .before .enum-told2 .given .1) (c .is-no-proposal .ensures)
 
 returns-3 : tie.Need-returns-3
 unfolding badStart
-returns-3 c = simp (ne-eqb _ _ (c .before .if1 .left), le-ltb _ _ (c .if2 .left))
+returns-3 c = rw (c .before .enum-told3 .given .1) (c .is-no-proposal2 .ensures)
 
 pub is-bad-start-spec : {M : Type 1} → statement M
-is-bad-start-spec = tie.close (tie.spec returns returns-2 returns-3)
+is-bad-start-spec =
+    tie.close
+    (tie.spec
+    (λ c. search needs)
+    (λ c. search needs)
+    (λ c κs. search needs)
+    (λ c. search needs)
+    (λ c κs. search needs)
+    returns
+    returns-2
+    returns-3)

@@ -22,23 +22,25 @@ module _ (c : tie.After-wide) where
   trace = now (c .before .before .before .before .before .args .trace)
 
   accepted : setupRefusal mostProcesses trace ≡ 0
-  accepted = setup-refusal-read _ _ (c .before .before .before .read-setup .ensures) ∙ c .before .if1 .left
+  accepted = setup-refusal-read _ _ _ (c .before .before .before .read-setup .ensures) ∙ c .before .if1 .left
 
   count : c .wide .result ≡ byte 3 trace
-  count = c .wide .ensures ∙ ap (λ (x : Setup). x .processes) (setup-fields-read _ _ (c .before .before .before .read-setup .ensures) (c .before .if1 .left))
+  count =
+      let fields = setup-fields-read _ _ _ (c .before .before .before .read-setup .ensures) (c .before .if1 .left) in
+      c .wide .ensures ∙ ap (λ (x : Setup). x .processes) fields
 
   end : 8 + c .wide .result ≤ length trace
   end = rw count (setup-said _ trace accepted .head .whole)
 
 returns : tie.Need-returns
 returns c =
-    let r = rest-refused _ _ (setup-refusal-read _ _ (c .before .before .before .read-setup .ensures)) (c .before .if1 .taken) in
+    let r = rest-refused _ _ _ (setup-refusal-read _ _ _ (c .before .before .before .read-setup .ensures)) (c .before .if1 .taken) in
     (sym (r .0), simp (r .1, zero-add))
 
 returns-2 : tie.Need-returns-2
 returns-2 c =
     let d = c .before in
-    let r = rest-accepted _ (accepted d) in
+    let r = rest-accepted _ _ (accepted d) in
     let past : 8 + d .wide .result ≡ 8 + byte 3 (trace d) = ap (λ (n : ℕ). 8 + n) (count d) in
     (part-to-end (8 + d .wide .result) (trace d) ∙ ap (λ (k : ℕ). drop k (trace d)) past ∙ sym (r .0), simp (count d, r .1))
 

@@ -1,4 +1,4 @@
--- `starts_of` meets its contract: a bad byte is refused, and otherwise the copy lies over the 32 zeros. Assumes nothing.
+-- `starts_of` meets its contract: a bad byte is refused, and otherwise the copy lies over the zeros. Assumes nothing.
 use mathlib.Core.Path.{sym, _∙_}
 use borrow.Author.Needs.{needs}
 use lib.Seq.{take-length}
@@ -10,7 +10,10 @@ returns : tie.Need-returns
 returns c = simp (sym (c .before .any-bad-start .ensures) ∙ c .if1 .taken)
 
 returns-2 : tie.Need-returns-2
-returns-2 c = simp (sym (c .before .before .before .before .any-bad-start .ensures) ∙ c .before .before .before .if1 .left, c .before .copy .ensures .1) (rw (take-length (now (c .before .before .before .before .before .before .args .s))))
+returns-2 c =
+    let good = c .before .before .before in
+    let a = good .before .before .before .args in
+    simp (sym (good .before .any-bad-start .ensures) ∙ good .if1 .left, c .before .copy .ensures .1) (rw (take-length (now (a .s))))
 
 pub starts-of-spec : {M : Type 1} → statement M
 starts-of-spec =

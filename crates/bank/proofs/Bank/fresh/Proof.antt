@@ -1,4 +1,4 @@
--- `bank::Bank::fresh` meets its contract: 8 and 256 equal numbers compute. Assumes nothing.
+-- `bank::Bank::fresh` meets its contract: its equal numbers compute. Assumes nothing.
 use Rattle.bank.specs.Registers.{freshBank}
 use mathlib.Core.Path.{refl}
 use Rattle.bank.proofs.Bank.fresh.Statement.{statement}
