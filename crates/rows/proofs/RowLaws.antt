@@ -82,7 +82,7 @@ module _ (s : List ℕ) (j f v : ℕ) (is : IsRow j) (few : f < rowWidth) where
       record {
         long = length-set s (position j f) v;
         row = λ long. same-row _ _ (own-numbers long) ∙ e;
-        others = λ k h n. same-row _ _ (λ i. getD-set-other s (position j f) (position k i) v 0 (apart j k f i is h (λ p. n (p .0))));
+        others = λ k i h n. getD-set-other s (position j f) (position k i) v 0 (apart j k f i is h (λ p. n (p .0)));
       }
 
 -- one change after the other; a change told in other words
@@ -92,7 +92,7 @@ module _ {j : ℕ} {g h : Row → Row} {a b : List ℕ} where
       record {
         long = y .long ∙ x .long;
         row = λ l. y .row (x .long ∙ l) ∙ ap h (x .row l);
-        others = λ k i n. y .others k i n ∙ x .others k i n;
+        others = λ k f i n. y .others k f i n ∙ x .others k f i n;
       }
 
   pub told-as : Changed j g a b → (Whole a → g (rowIn a j) ≡ h (rowIn a j)) → Changed j h a b

@@ -36,6 +36,11 @@ getD-rowsFrom (suc n) j s (suc i) h = getD-rowsFrom n (suc j) s i (omega arith) 
 pub row-at : (s : List ℕ) (j : ℕ) → IsRow j → getD (rowsIn s) j blank ≡ rowIn s j
 row-at s j h = getD-rowsFrom mostProcesses 0 s j h ∙ ap (rowIn s) (zero-add j)
 
+-- another row is as it was
+same-rows : {j : ℕ} {g : Row → Row} {old new : List ℕ} → Changed j g old new → {k : ℕ} → IsRow k → (k ≡ j → ⊥) → rowIn new k ≡ rowIn old k
+unfolding rowIn
+same-rows x {k} h n = same-row _ _ (λ f. x .others k f h n)
+
 -- one row changed: that row of the rows is set
 pub changed-rows : {j : ℕ} {g : Row → Row} {old new : List ℕ} → IsRow j → Whole old → Changed j g old new → rowsIn new ≡ set (rowsIn old) j (g (rowIn old j))
 changed-rows {j} {g} {old} {new} inside whole x =
@@ -47,7 +52,7 @@ changed-rows {j} {g} {old} {new} inside whole x =
     at i h true e =
         rw (eqb-true i j e, getD-set-same (rowsIn old) j (g (rowIn old j)) blank (omega (arith, thirty-two old))) (row-at new j inside ∙ x .row whole)
     at i h false e =
-        row-at new i h ∙ x .others i h (eqb-false i j e) ∙ sym (getD-set-other (rowsIn old) j i (g (rowIn old j)) blank (eqb-false i j e) ∙ row-at old i h)
+        row-at new i h ∙ same-rows x h (eqb-false i j e) ∙ sym (getD-set-other (rowsIn old) j i (g (rowIn old j)) blank (eqb-false i j e) ∙ row-at old i h)
 
 -- THE START
 

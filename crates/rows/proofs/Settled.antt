@@ -1,7 +1,11 @@
 -- Each promise settles its outcome: the answer and every lent number. (`Settles` has the meaning.)
 -- Assumes nothing.
-use mathlib.Core.Path.{refl, sym, _∙_}
+use Prim.Native.Nat.{ℕ}
+use mathlib.Core.Path.{_≡_, refl, sym, _∙_}
+use mathlib.Core.List.{List}
 use Rattle.terms.proofs.Settles.{Settles}
+use Rattle.model.specs.declared.Row.{Row}
+use Rattle.rows.specs.Rows.{IsRow, Whole, numberAt, rowIn, Changed}
 use Rattle.rows.proofs.place.Kinds as place-kinds
 use Rattle.rows.proofs.place.Reads as place
 use Rattle.rows.proofs.slot.Kinds as slot-kinds
@@ -87,3 +91,12 @@ crash-settles κs a x y u v p q = (refl, (λ k. (tt, ((p ∙ sym q) k, tt))))
 
 pub begin-settles : Settles 1 begin-kinds.ps begin-kinds.r begin.Post
 begin-settles κs a x y u v p q = (refl, (λ k. (tt, (tt, (tt, ((p ∙ sym q) k, tt))))))
+
+-- What `Changed` settles: row j, and every number of the other rows. It leaves open which of the numbers from 8 up stands for decided, and
+-- which but 1 for not crashed.
+module _ {j : ℕ} {g : Row → Row} {old a b : List ℕ} (x : Changed j g old a) (y : Changed j g old b) where
+  pub row-settled : Whole old → rowIn a j ≡ rowIn b j
+  row-settled whole = x .row whole ∙ sym (y .row whole)
+
+  pub others-settled : (k f : ℕ) → IsRow k → (k ≡ j → ⊥) → numberAt a k f ≡ numberAt b k f
+  others-settled k f is other = x .others k f is other ∙ sym (y .others k f is other)

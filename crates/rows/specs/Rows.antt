@@ -122,11 +122,11 @@ begunIn b j s =
 
 -- AS ROWS
 
--- of the rows only row j is another: what g makes of it
+-- of the numbers only those of row j are others: the row is what g makes of it
 pub record Changed (j : ℕ) (g : Row → Row) (old new : List ℕ) : Type 0 where
   pub long : length new ≡ length old
   pub row : Whole old → rowIn new j ≡ g (rowIn old j)
-  pub others : (k : ℕ) → IsRow k → (k ≡ j → ⊥) → rowIn new k ≡ rowIn old k
+  pub others : (k f : ℕ) → IsRow k → (k ≡ j → ⊥) → numberAt new k f ≡ numberAt old k f
 
 -- one move more can be counted
 pub record Uncounted (r : Row) : Type 0 where
