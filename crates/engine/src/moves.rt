@@ -1,11 +1,10 @@
 // A step in place: by the place of its process one operation of memory, and where the process goes with the answer.
 ghost use Prim.Native.Nat.{_≤_};
 ghost use mathlib.Core.Path.{_≡_};
-ghost use mathlib.Core.Bool.{false, cond};
-ghost use lib.ListN.{getD};
 ghost use Rattle.terms.specs.Limits.{mostSlots, topTick};
 ghost use Rattle.bank.specs.Registers.{bankOf};
 ghost use Rattle.model.specs.Bounds.{Sound, Room};
+ghost use Rattle.model.specs.Memory.{flagAt};
 ghost use Rattle.rows.specs.Rows.{rowIn, IsRow, Whole};
 ghost use Rattle.engine.specs.Stepped.{Numbered, Due, sharedOf, Moved, Stepped};
 use model::FLAGS;
@@ -22,7 +21,7 @@ use terms::Wait;
 // The flag of value v as a number: 1 where it is set.
 fn flag(v: u32, flags: &[bool; FLAGS]) -> u32
     requires { ⌜ v ≤ mostSlots ⌝ }
-    ensures { λ n. ⌜ n ≡ cond (getD (now (flags .entry)) v false) 1 0 ⌝ }
+    ensures { λ n. ⌜ n ≡ flagAt (sharedOf (now (flags .entry))) v ⌝ }
 {
     let at = v as usize;
     if flags[at] {

@@ -1,10 +1,9 @@
 // The report: a line of numbers a process.
 ghost use mathlib.Core.Path.{_≡_};
-ghost use mathlib.Core.List.{_++_};
 ghost use Prim.Native.Nat.{_+_, _*_, _≤_};
-ghost use lib.ListN.{length, take, drop};
+ghost use lib.ListN.{length};
 ghost use Rattle.terms.specs.Limits.{mostProcesses};
-ghost use Rattle.terms.specs.Overlay.{overlay};
+ghost use Rattle.terms.specs.Overlay.{overlay, spliced};
 ghost use Rattle.model.specs.Routine.{routineOf, routine};
 ghost use Rattle.model.specs.Sizes.{lineWidth};
 ghost use Rattle.model.specs.Report.{shownOf, shownPlace, figureOf, line, lines};
@@ -56,7 +55,7 @@ fn figure(kind: Kind, j: usize, rows: &[u32; NUMBERS]) -> u32
 pub fn write_line(kind: Kind, j: usize, rows: &[u32; NUMBERS], at: usize, report: &mut [u32])
     requires { ⌜ IsRow j ⌝ }
     requires { ⌜ at + lineWidth ≤ length (now report) ⌝ }
-    ensures { λ _. ⌜ now (report .exit) ≡ take at (now (report .entry)) ++ (line (routineOf kind) (rowIn (now (rows .entry)) j) ++ drop (at + lineWidth) (now (report .entry))) ⌝ }
+    ensures { λ _. ⌜ now (report .exit) ≡ spliced at (line (routineOf kind) (rowIn (now (rows .entry)) j)) (now (report .entry)) ⌝ }
 {
     report[at] = shown_place(j, rows);
     report[at + 1] = figure(kind, j, rows);

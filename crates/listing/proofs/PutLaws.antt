@@ -13,25 +13,12 @@ use lib.Dec.{ltb}
 use lib.ListN.{length, take, drop, set, length-append, length-take, length-drop, drop-of-length-le, take-append-drop}
 use lib.Seq.{take-length, take-append-seam, drop-append-add, drop-drop, set-split}
 use Rattle.terms.proofs.Parts.{part-to-end}
-use Rattle.listing.specs.Put.{spliced, Put}
+use Rattle.terms.specs.Overlay.{spliced}
+use Rattle.terms.proofs.OverlayLaws.{spliced-then}
+use Rattle.listing.specs.Put.{Put}
 use Rattle.listing.specs.Text.{zeroDigit, mostDigits, digits, decimal, processLine, processLines}
 
 -- PIECES
-
--- what is put past the front of a buffer leaves the front
-past-front : (front piece s : List ℕ)
-    → spliced (length front) piece (front ++ drop (length front) s) ≡ front ++ (piece ++ drop (length front + length piece) s)
-unfolding spliced
-past-front front piece s = rw (take-append-seam, drop-append-add, drop-drop)
-
-spliced-then : (at : ℕ) (a b s : List ℕ) → at ≤ length s → spliced (at + length a) b (spliced at a s) ≡ spliced at (a ++ b) s
-unfolding spliced
-spliced-then at a b s h =
-    let front : length (take at s ++ a) ≡ at + length a = simp (length-append, length-take) (omega arith) in
-    let whole : at + length (a ++ b) ≡ at + length a + length b = omega (arith, length-append a b) in
-    let after = b ++ drop (length (take at s ++ a) + length b) s in
-    rw (whole, ← append-assoc (take at s) a (drop (at + length a) s), ← front, append-assoc a b)
-    (past-front (take at s ++ a) b s ∙ append-assoc (take at s) a after)
 
 -- two pieces one after the other
 pub put-then : {m n at i j : ℕ} {a b s t u : List ℕ} → Put m at a s i t → Put n i b t j u → Put (m + n) at (a ++ b) s j u

@@ -17,7 +17,8 @@ use Rattle.setups.specs.Setup.{setupRefusal}
 use Rattle.model.specs.Sizes.{lineWidth, reportWidth}
 use Rattle.model.specs.Run.{Progress, Progress.stopped, restOf, records, reached, runOn, runRefusal}
 use Rattle.model.specs.Report.{Ran, outcomeOf, ranOf}
-use Rattle.listing.specs.Put.{spliced, Put}
+use Rattle.terms.specs.Overlay.{spliced}
+use Rattle.listing.specs.Put.{Put}
 use Rattle.listing.specs.Text.{overLine, headLine, refusedLine, processLines, ranText, mostInput, textOf, Listed}
 
 refused-number : (k x : ℕ) (p : Progress) → outcomeOf k (ifAccepted x p (stopped x 0)) .number ≡ 0 → x ≡ 0

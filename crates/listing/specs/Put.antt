@@ -1,12 +1,9 @@
 -- What the functions that put a piece of text into a buffer leave there.
 use mathlib.Core.Path.{_≡_}
-use mathlib.Core.List.{List, _++_}
+use mathlib.Core.List.{List}
 use Prim.Native.Nat.{ℕ, _+_, _≤_}
-use lib.ListN.{length, take, drop}
-
--- a piece over a buffer from index `at` on
-unfoldable pub spliced : ℕ → List ℕ → List ℕ → List ℕ
-spliced at piece before = take at before ++ (piece ++ drop (at + length piece) before)
+use lib.ListN.{length}
+use Rattle.terms.specs.Overlay.{spliced}
 
 -- A piece of at most `most` bytes was put at index `at`, and it ends at `next`.
 pub record Put (most at : ℕ) (piece before : List ℕ) (next : ℕ) (after : List ℕ) : Type 0 where

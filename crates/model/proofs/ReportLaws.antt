@@ -4,15 +4,17 @@
 use Prim.Native.Nat.{ℕ, zero, suc, _+_, _*_, _≤_, _<_}
 use mathlib.Core.Path.{_≡_, refl, sym, ap, ap₂, _∙_}
 use mathlib.Core.List.{List, [], _∷_, _++_, append-assoc}
+use native.Mathlib.Nat.{zero-add}
 use native.Mathlib.Numerals.{add-one, add-two, add-three}
 use native.Mathlib.Omega.{arith}
 use borrow.Author.Tests.{lt-ltb, le-ltb}
 use lib.Dec.{ltb}
 use lib.ListN.{length, take, drop, getD, set, length-append}
-use lib.Seq.{sets-eq, take-at, drop-at, drop-drop}
+use lib.Seq.{sets-eq}
 use Rattle.terms.specs.Limits.{mostSteps}
-use Rattle.terms.specs.Overlay.{overlay}
+use Rattle.terms.specs.Overlay.{overlay, spliced}
 use Rattle.terms.specs.Refusal.{refuse, _then_}
+use Rattle.terms.proofs.OverlayLaws.{spliced-front, spliced-then}
 use Rattle.terms.proofs.RefusalLaws.{then-on, then-stop}
 use Rattle.records.specs.Record.{byte}
 use Rattle.setups.specs.Setup.{setupRefusal}
@@ -30,8 +32,8 @@ module _ (κ : Routine) where
   -- four stores are a line
   pub line-stored : (r : Row) (at : ℕ) (l : List ℕ) → at + lineWidth ≤ length l
       → set (set (set (set l at (shownPlace r)) (at + 1) (figureOf κ r)) (at + 2) (r .moves)) (at + 3) (r .lates)
-      ≡ take at l ++ (line κ r ++ drop (at + lineWidth) l)
-  unfolding line
+      ≡ spliced at (line κ r) l
+  unfolding line spliced
   line-stored r at l h =
       let new : List ℕ = line κ r in
       rw (add-one, add-two, add-three) (sets-eq new l at h ∙ append-assoc (take at l) new (drop (at + lineWidth) l))
@@ -43,22 +45,15 @@ module _ (κ : Routine) where
 
   -- one line more over the front of the report
   pub lines-more : (rows : List Row) (j : ℕ) (old now : List ℕ) → now ≡ overlay (lines κ rows j) old
-      → take (j * lineWidth) now ++ (line κ (getD rows j blank) ++ drop (j * lineWidth + lineWidth) now) ≡ overlay (lines κ rows (j + 1)) old
+      → spliced (j * lineWidth) (line κ (getD rows j blank)) now ≡ overlay (lines κ rows (j + 1)) old
   unfolding lines
   lines-more rows j old now e =
       let L = lines κ rows j in
-      let at : ℕ = j * lineWidth in
-      let n : length L ≡ at = length-lines rows j in
-      let m : length (L ++ line κ (getD rows j blank)) ≡ at + lineWidth =
-      sym (ap length (ap (lines κ rows) (add-one j))) ∙ length-lines rows (j + 1) ∙ omega arith in
-      let front : take at now ≡ L = ap (take at) e ∙ take-at L (drop (length L) old) at n in
-      let seam : drop at now ≡ drop at old = ap (drop at) e ∙ drop-at L (drop (length L) old) at n ∙ ap (λ (i : ℕ). drop i old) n in
-      let back : drop (at + lineWidth) now ≡ drop (at + lineWidth) old =
-      sym (drop-drop lineWidth at now) ∙ ap (drop lineWidth) seam ∙ drop-drop lineWidth at old in
-      rw (add-one)
-      (ap₂ (λ (x y : List ℕ). x ++ (line κ (getD rows j blank) ++ y)) front back
-      ∙ sym (append-assoc L (line κ (getD rows j blank)) (drop (j * lineWidth + lineWidth) old))
-      ∙ ap (λ (i : ℕ). (L ++ line κ (getD rows j blank)) ++ drop i old) (sym m))
+      let new = line κ (getD rows j blank) in
+      let at : j * lineWidth ≡ 0 + length L = sym (zero-add (length L) ∙ length-lines rows j) in
+      ap₂ (λ (n : ℕ) (s : List ℕ). spliced n new s) at (e ∙ sym (spliced-front L old))
+      ∙ spliced-then 0 L new old (omega arith)
+      ∙ rw add-one (spliced-front (L ++ new) old)
 
 -- A RUN
 

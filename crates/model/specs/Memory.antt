@@ -9,12 +9,16 @@ use Rattle.model.specs.declared.Ask.{Ask}
 use Rattle.model.specs.declared.Reply.{Reply}
 use Rattle.model.specs.declared.Shared.{Shared}
 
+-- the flag of value v as a number: 1 where it is set
+abbrev pub flagAt : Shared → ℕ → ℕ
+flagAt m v = cond (getD (m .flags) v false) 1 0
+
 abbrev pub reply : Bank → Shared → ProcessNumber → ℕ → Ask → Reply
 reply b m i t Ask.Nothing = record { value = 0; late = false }
 reply b m i t (Ask.Read c d) = record { value = valueAt b c; late = false }
 reply b m i t (Ask.Write c v) = record { value = 0; late = lateAt b i c t }
 reply b m i t (Ask.Raise v) = record { value = 0; late = false }
-reply b m i t (Ask.Peek v) = record { value = cond (getD (m .flags) v false) 1 0; late = false }
+reply b m i t (Ask.Peek v) = record { value = flagAt m v; late = false }
 
 abbrev pub bankAfter : Bank → ProcessNumber → ℕ → Ask → Bank
 bankAfter b i t Ask.Nothing = b

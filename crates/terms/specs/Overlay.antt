@@ -1,7 +1,12 @@
--- A record's bytes over the front of a buffer, and then the buffer's own: what a writer says of every byte that it is lent.
+-- A piece over a part of a buffer, with the buffer's own around it: what a writer says of every byte, or number, that it is lent.
 use mathlib.Core.List.{List, _++_}
-use Prim.Native.Nat.{ℕ}
-use lib.ListN.{length, drop}
+use Prim.Native.Nat.{ℕ, _+_}
+use lib.ListN.{length, take, drop}
 
+-- over the front
 abbrev pub overlay : List ℕ → List ℕ → List ℕ
-overlay rec buffer = rec ++ drop (length rec) buffer
+overlay piece buffer = piece ++ drop (length piece) buffer
+
+-- from index `at` on
+unfoldable pub spliced : ℕ → List ℕ → List ℕ → List ℕ
+spliced at piece buffer = take at buffer ++ (piece ++ drop (at + length piece) buffer)
