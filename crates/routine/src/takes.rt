@@ -45,7 +45,7 @@ fn lost(shape: Shape, j: usize, rows: &[u32; NUMBERS]) -> SlotNumber
     requires { ⌜ IsRow j ⌝ }
     ensures { λ c. ⌜ c ≡ slotsOf SlotRule.Ring shape (rowIn (now (rows .entry)) j .local) .lost ⌝ }
 {
-    rows::slot(j, rows) // the same
+    rows::slot(j, rows)
 }
 
 // The scan goes on at value v, or ends past the last one.
