@@ -55,7 +55,8 @@ module _ (trace : List ℕ) (read : SetupRead) (reads : read ≡ setupRead mostP
     pub narrow : (old : List ℕ) → length old < lineWidth * read .setup .processes → refusedRun 7 0 old ≡ ranOf mostProcesses trace old
     narrow old h = ran-narrow mostProcesses trace old passed (omega (arith, count))
 
-    pub too-long : (old : List ℕ) → lineWidth * read .setup .processes ≤ length old → 8 * mostSteps < length part → refusedRun 8 0 old ≡ ranOf mostProcesses trace old
+    pub too-long : (old : List ℕ) → lineWidth * read .setup .processes ≤ length old → 8 * mostSteps < length part
+        → refusedRun 8 0 old ≡ ranOf mostProcesses trace old
     too-long old wide h = ran-long mostProcesses trace old passed (omega (arith, count)) (omega (arith, ap length part-is))
 
     module _ (u : Shape) (shapes : u ≡ shapeOf (read .setup)) where

@@ -70,6 +70,10 @@ pub record Parts : Type 0 where
   pub flags : List Bool
   pub newest : ℕ
 
+abbrev pub parts : List ℕ → List ℕ → List ℕ → ℕ → List Bool → ℕ → Parts
+parts rows values deadlines last flags newest =
+    record { rows = rows; values = values; deadlines = deadlines; last = last; flags = flags; newest = newest }
+
 abbrev pub stateIn : Parts → State
 stateIn p =
     record { rows = rowsIn (p .rows); bank = bankOf (p .values) (p .deadlines) (p .last); shared = sharedOf (p .flags); newest = p .newest }

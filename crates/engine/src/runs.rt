@@ -8,7 +8,7 @@ ghost use Rattle.model.specs.Sizes.{lineWidth};
 ghost use Rattle.model.specs.Run.{startRows, shapeOf};
 ghost use Rattle.model.specs.Report.{ranOf};
 ghost use Rattle.rows.specs.Rows.{rowsWidth, Whole, rowsIn};
-ghost use Rattle.engine.specs.Stepped.{stateIn, Begins, Walked, ranFrom};
+ghost use Rattle.engine.specs.Stepped.{parts, stateIn, Begins, Walked, ranFrom};
 use crate::moves;
 use crate::report;
 use model::FLAGS;
@@ -55,11 +55,11 @@ fn take_records(
     requires { ⌜ shape .count ≤ mostProcesses ⌝ }
     requires { ⌜ length (now rest) ≤ 8 * mostSteps ⌝ }
     requires { ⌜ Whole (now rows) ⌝ }
-    requires { ⌜ Begins shape (stateIn (record { rows = now rows; values = now values; deadlines = now deadlines; last = now last; flags = now flags; newest = now newest })) ⌝ }
+    requires { ⌜ Begins shape (stateIn (parts (now rows) (now values) (now deadlines) (now last) (now flags) (now newest))) ⌝ }
     ensures { λ r. ⌜ Walked shape
-        (stateIn (record { rows = now (rows .entry); values = now (values .entry); deadlines = now (deadlines .entry); last = now (last .entry); flags = now (flags .entry); newest = now (newest .entry) }))
+        (stateIn (parts (now (rows .entry)) (now (values .entry)) (now (deadlines .entry)) (now (last .entry)) (now (flags .entry)) (now (newest .entry))))
         (now (rest .entry)) r
-        (record { rows = now (rows .exit); values = now (values .exit); deadlines = now (deadlines .exit); last = now (last .exit); flags = now (flags .exit); newest = now (newest .exit) }) ⌝ }
+        (parts (now (rows .exit)) (now (values .exit)) (now (deadlines .exit)) (now (last .exit)) (now (flags .exit)) (now (newest .exit))) ⌝ }
 {
     let mut at: usize = 0;
     let mut k: u32 = 0;

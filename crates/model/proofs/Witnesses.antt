@@ -105,7 +105,8 @@ pub record Witnessed : Type 0 where
   pub report-undecided : Accepted p3 × Decision p3 × (number p3 0 0 ≡ 1) × (number p3 0 1 ≡ 0)
   -- the counts of all records: P6's late write; the moves of one that crashed
   pub report-counts : (records (restOf p6) ≡ 10) × (number p6 1 2 ≡ 5) × (movesIn p6 1 10 ≡ 5) × (number p6 1 3 ≡ 1) × (latesIn mostProcesses p6 1 10 ≡ 1)
-  pub report-crash-no-move : Accepted crashesWaiting × (records (restOf crashesWaiting) ≡ 5) × (number crashesWaiting 0 2 ≡ 4) × (movesIn crashesWaiting 0 5 ≡ 4)
+  pub report-crash-no-move : Accepted crashesWaiting × (records (restOf crashesWaiting) ≡ 5) × (number crashesWaiting 0 2 ≡ 4)
+      × (movesIn crashesWaiting 0 5 ≡ 4)
   -- a row at its bound
   pub report-bound : Accepted lateOnce × (number lateOnce 0 2 ≡ 7) × (number lateOnce 0 3 ≡ 1) × (number lateOnce 0 0 ≡ 8)
 

@@ -10,7 +10,9 @@ returns : tie.Need-returns
 returns c = rw (sym (c .before .is-crashed .ensures) ∙ c .if1 .taken)
 
 returns-2 : tie.Need-returns-2
-returns-2 c = rw (sym (c .before .before .before .is-crashed .ensures) ∙ c .before .before .if1 .left) (c .shown .ensures ∙ ap shownOf (c .before .place .ensures))
+returns-2 c =
+    let alive = c .before .before in
+    rw (sym (alive .before .is-crashed .ensures) ∙ alive .if1 .left) (c .shown .ensures ∙ ap shownOf (c .before .place .ensures))
 
 pub shown-place-spec : {M : Type 1} → statement M
 shown-place-spec =

@@ -20,7 +20,12 @@ slice-write-report-4 : tie.Need-slice-write-report-4
 slice-write-report-4 c = simp length-set (omega arith)
 
 returns : tie.Need-returns
-returns c = let a = c .before .before .before .before .before .args in rw (c .before .before .before .shown-place .ensures, c .before .before .figure .ensures, c .before .moves .ensures, c .lates .ensures) (line-stored (routineOf (a .kind)) (rowIn (now (a .rows)) (a .j)) (a .at) (now (a .report)) (c .before .before .before .before .before .pre .1))
+returns c =
+    let placed = c .before .before .before in
+    let start = placed .before .before in
+    let a = start .args in
+    rw (placed .shown-place .ensures, c .before .before .figure .ensures, c .before .moves .ensures, c .lates .ensures)
+    (line-stored (routineOf (a .kind)) (rowIn (now (a .rows)) (a .j)) (a .at) (now (a .report)) (start .pre .1))
 
 pub write-line-spec : {M : Type 1} → statement M
 write-line-spec =

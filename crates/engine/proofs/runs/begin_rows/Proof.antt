@@ -41,7 +41,8 @@ returns : tie.Need-returns Inv-loop μ-loop
 returns c =
     let l = c .before .before in
     let a = l .before .args in
-    (l .loop .inv .1, filled-done (a .shape) (a .t2) (l .loop .j) (rowsIn (l .loop .rows)) (l .loop .inv .2) (long (l .before)) (λ i h k. omega (arith, c .if1 .left)))
+    let past = filled-done (a .shape) (a .t2) (l .loop .j) (rowsIn (l .loop .rows)) (l .loop .inv .2) (long (l .before)) in
+    (l .loop .inv .1, past (λ i h k. omega (arith, c .if1 .left)))
 
 pub begin-rows-spec : {M : Type 1} → statement M
 begin-rows-spec =

@@ -2,8 +2,6 @@
 -- Assumes nothing.
 use Prim.Native.Nat.{ℕ, _≤_, _+_, _-_}
 use mathlib.Core.Path.{_≡_, refl, ap, _∙_}
-use mathlib.Core.Bool.{Bool}
-use mathlib.Core.List.{List}
 use native.Mathlib.Omega.{arith}
 use borrow.Author.Needs.{needs}
 use denote.Ref.{now}
@@ -14,14 +12,10 @@ use Rattle.steps.specs.declared.Step.{Step}
 use Rattle.steps.specs.Step.{stepRead}
 use Rattle.model.specs.Bounds.{Room}
 use Rattle.rows.specs.Rows.{IsRow, Whole, rowIn}
-use Rattle.engine.specs.Stepped.{Due, Parts, stateIn}
+use Rattle.engine.specs.Stepped.{Due, parts, stateIn}
 use Rattle.engine.proofs.WalkLaws.{Going, sets-out, arrives, unread, whole, due, seated, roomy, unfit, lands}
 use Rattle.engine.proofs.runs.take_records.Statement.{statement}
 use Rattle.engine.proofs.runs.take_records.Tie as tie
-
-abbrev parts : List ℕ → List ℕ → List ℕ → ℕ → List Bool → ℕ → Parts
-parts rows values deadlines last flags newest =
-    record { rows = rows; values = values; deadlines = deadlines; last = last; flags = flags; newest = newest }
 
 abbrev Inv-loop : tie.InvT-loop
 Inv-loop shape rest rows₀ values₀ deadlines₀ last₀ flags₀ newest₀ at₀ k₀ rows values deadlines last flags newest at k =
@@ -112,7 +106,9 @@ returns-2 : tie.Need-returns-2 Inv-loop μ-loop
 returns-2 c =
     let a = accepted (c .before) in
     let r = read a in
-    unfit (head r .loop .inv .1) (r .before .before .loop-test .taken) _ (found r) (a .if1 .left) (start (head r) .pre .1 .0) (c .before .judge .ensures) (c .if2 .taken) _
+    let l = head r in
+    unfit (l .loop .inv .1) (r .before .before .loop-test .taken) _ (found r) (a .if1 .left) (start l .pre .1 .0) (c .before .judge .ensures)
+    (c .if2 .taken) _
 
 take-step-requires : tie.Need-take-step-requires Inv-loop μ-loop
 take-step-requires c κs =
