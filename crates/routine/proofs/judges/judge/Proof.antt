@@ -4,13 +4,16 @@ use Rattle.model.specs.Routine.{isDecided}
 use Rattle.model.specs.Run.{judge}
 use borrow.Author.Tests.{lt-ltb, le-ltb, eq-eqb, ne-eqb}
 use mathlib.Core.Path.{sym, ap, _∙_}
+use native.Mathlib.Omega.{arith}
 use borrow.Author.Needs.{needs}
 use Rattle.routine.proofs.judges.judge.Statement.{statement}
 use Rattle.routine.proofs.judges.judge.Tie as tie
 
 returns : tie.Need-returns
 unfolding judge
-returns c = rw (lt-ltb _ _ (c .if1 .taken))
+returns c =
+    let a = c .before .before .args in
+    rw (lt-ltb (a .step .tick) (a .newest) (omega (arith, c .if1 .taken)))
 
 returns-2 : tie.Need-returns-2
 unfolding judge

@@ -4,7 +4,7 @@ use Rattle.terms.specs.Numbers.{slotOf}
 use mathlib.Core.Path.{sym, ap, _∙_}
 use Rattle.terms.specs.declared.SlotNumber.{SlotNumber}
 use native.Mathlib.Omega.{arith}
-use Prim.Native.Nat.{ℕ, _+_, _%_}
+use Prim.Native.Nat.{ℕ, _+_, _%_, _<_}
 use native.Mathlib.Nat.{mod-eq-of-lt, mod-self}
 use borrow.Author.Needs.{needs}
 use Rattle.routine.proofs.takes.filled.Statement.{statement}
@@ -19,7 +19,8 @@ returns : tie.Need-returns
 returns c =
     let found = c .before .before .before in
     let u = found .before .args .shape in
-    ap slotOf (sym (ap (λ (s : SlotNumber). (s .0 + 1) % u .size) (sym (found .slot .ensures)) ∙ mod-eq-of-lt (c .if1 .taken)))
+    let below : found .slot .result .0 + 1 < u .size = omega (arith, c .if1 .taken) in
+    ap slotOf (sym (ap (λ (s : SlotNumber). (s .0 + 1) % u .size) (sym (found .slot .ensures)) ∙ mod-eq-of-lt below))
 
 returns-2 : tie.Need-returns-2
 returns-2 c =
