@@ -5,7 +5,7 @@ ghost use Prim.Native.Nat.{_+_, _≤_};
 ghost use lib.ListN.{length};
 ghost use denote.Ref.{ptr};
 ghost use Rattle.terms.specs.Limits.{mostProcesses};
-ghost use Rattle.setups.specs.Setup.{outOfLimits, badSize, noProposal, badStart, anyBadStart, setupLimits, headRefusal};
+ghost use Rattle.setups.specs.Setup.{outOfLimits, badSize, beyond, firstStart, anyBadStart, setupLimits, headRefusal};
 ghost use Rattle.setups.specs.Setup.{startsOf, noSetup, setupRead, setupRest, restStart, setupWriteRefusal, WroteSetup};
 use kinds::Kind;
 use records::Written;
@@ -68,20 +68,23 @@ fn is_bad_size(kind: Kind, n: usize, size: u32, spare: u32) -> bool
     }
 }
 
-fn is_no_proposal(size: u8, x: u8) -> bool
-    ensures { λ r. ⌜ r ≡ noProposal size x ⌝ }
+// Whether x is not one of `count` numbers from `first` on.
+fn is_beyond(first: u8, count: u8, x: u8) -> bool
+    ensures { λ r. ⌜ r ≡ beyond first count x ⌝ }
 {
-    x < 1 || size < x
+    if x < first {
+        return true;
+    }
+    count <= x - first
 }
 
-// The start byte x of the process with index j.
-fn is_bad_start(kind: Kind, n: usize, size: u8, spare: u8, j: usize, x: u8) -> bool
-    ensures { λ r. ⌜ r ≡ badStart kind n size spare j x ⌝ }
+fn first_start(kind: Kind) -> u8
+    ensures { λ r. ⌜ r ≡ firstStart kind ⌝ }
 {
     match kind {
-        Kind::Lock => size <= x,
-        Kind::Plain => is_no_proposal(size, x),
-        Kind::Fast => is_no_proposal(size, x),
+        Kind::Lock => 0,
+        Kind::Plain => 1,
+        Kind::Fast => 1,
     }
 }
 
@@ -91,15 +94,15 @@ fn either(a: bool, b: bool) -> bool
     a | b
 }
 
-// Whether some byte of s is no start byte. It stops at none, so that many are looked at at once.
+// Whether some byte of s is no start byte. It stops at none, and asks for the kind only once, so that many are looked at at once.
 fn any_bad_start(kind: Kind, size: u8, spare: u8, s: &[u8]) -> bool
     ensures { λ r. ⌜ r ≡ anyBadStart kind size spare (now (s .entry)) ⌝ }
 {
-    let n = s.len();
+    let first = first_start(kind);
     let mut bad = false;
     let mut i = 0;
-    while i < n {
-        bad = either(bad, is_bad_start(kind, n, size, spare, i, s[i]));
+    while i < s.len() {
+        bad = either(bad, is_beyond(first, size, s[i]));
         i += 1;
     }
     bad

@@ -1,41 +1,50 @@
 -- `any_bad_start` meets its contract. The loop's invariant: some byte is bad if one was so far, or one from i on is. Assumes nothing.
-use mathlib.Core.Path.{_≡_, refl, _∙_}
+use mathlib.Core.Path.{_≡_, refl, ap, _∙_}
 use mathlib.Core.Bool.{_||_, or-assoc, or-false}
-use Prim.Native.Nat.{_≤_, _+_, _-_}
+use Prim.Native.Nat.{ℕ, _≤_, _+_, _-_}
 use native.Mathlib.Omega.{arith}
 use borrow.Author.Needs.{needs}
 use lib.ListN.{length, drop, getD}
 use denote.Ref.{now}
-use Rattle.terms.specs.Refusal.{anyFrom}
 use Rattle.terms.proofs.RefusalLaws.{any-next, any-none}
-use Rattle.setups.specs.Setup.{badStart}
+use Rattle.setups.specs.Setup.{beyond}
+use Rattle.setups.proofs.SetupLaws.{anyBeyond, starts-rule}
 use Rattle.setups.proofs.any_bad_start.Statement.{statement}
 use Rattle.setups.proofs.any_bad_start.Tie as tie
 
 abbrev Inv-loop : tie.InvT-loop
-Inv-loop kind size spare s n₀ bad₀ i₀ bad i =
-    (i ≤ length s) × (anyFrom 0 (badStart kind (length s) size spare) s ≡ (bad || anyFrom i (badStart kind (length s) size spare) (drop i s)))
+Inv-loop size spare s first bad₀ i₀ bad i = (i ≤ length s) × (anyBeyond first size 0 s ≡ (bad || anyBeyond first size i (drop i s)))
 
 abbrev μ-loop : tie.MeasureT-loop
-μ-loop kind size spare s n₀ bad₀ i₀ bad i = length s - i
+μ-loop size spare s first bad₀ i₀ bad i = length s - i
 
 loop-holds : tie.Need-loop-holds Inv-loop μ-loop
 loop-holds c = (omega arith, refl)
 
 loop-again : tie.Need-loop-again Inv-loop μ-loop
 loop-again c =
-    let a = c .before .before .before .before .before .before .args in
-    let l = c .before .before .before .before .loop in
+    let at-loop = c .before .before .before .before in
+    let l = at-loop .loop in
+    let a = at-loop .before .before .before .args in
     let s = now (a .s) in
-    let bad = badStart (a .kind) (length s) (a .size) (a .spare) in
-    (omega arith, cc (any-next bad s (l .i) (omega arith), or-assoc (l .bad) (bad (l .i) (getD s (l .i) 0)) (anyFrom (l .i + 1) bad (drop (l .i + 1) s))))
+    let first = at-loop .before .first-start .result in
+    let x = getD s (l .i) 0 in (
+      omega arith,
+      cc (
+        any-next (λ j. beyond first (a .size)) s (l .i) (omega arith),
+        or-assoc (l .bad) (beyond first (a .size) x) (anyBeyond first (a .size) (l .i + 1) (drop (l .i + 1) s)),
+      ),
+    )
 
 returns : tie.Need-returns Inv-loop μ-loop
 returns c =
-    let a = c .before .before .before .args in
+    let l = c .before .loop in
+    let f = c .before .before in
+    let a = f .before .before .args in
     let s = now (a .s) in
-    let bad = badStart (a .kind) (length s) (a .size) (a .spare) in
-    cc (any-none bad s (c .before .loop .i) (omega arith), or-false (c .before .loop .bad))
+    let first = f .first-start .result in
+    let found : l .bad ≡ anyBeyond first (a .size) 0 s = cc (any-none (λ j. beyond first (a .size)) s (l .i) (omega arith), or-false (l .bad)) in
+    found ∙ ap (λ (k : ℕ). anyBeyond k (a .size) 0 s) (f .first-start .ensures) ∙ starts-rule (a .kind) (length s) (a .size) (a .spare) 0 s
 
 pub any-bad-start-spec : {M : Type 1} → statement M
 any-bad-start-spec =
@@ -43,6 +52,7 @@ any-bad-start-spec =
     (tie.spec
     Inv-loop
     μ-loop
+    (λ c κs. search needs)
     loop-holds
     (λ c. omega arith)
     (λ c κs. search needs)
