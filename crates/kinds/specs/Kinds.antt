@@ -16,6 +16,6 @@ lastKind = length kinds
 abbrev pub badKind : ℕ → ℕ → Bool
 badKind last k = outside 1 last k
 
--- the kind with the number k
+-- the kind with the number k; beside the table the nearest
 abbrev pub kindOf : ℕ → Kind
-kindOf k = getD kinds (k - 1) Kind.Lock
+kindOf k = getD kinds (k - 1) Kind.Fast

@@ -25,14 +25,13 @@ pub fn is_bad_kind(last: u32, k: u32) -> bool
     false
 }
 
-// The kind with the number k. A number that none has gives some kind: `is_bad_kind` tells.
+// The kind with the number k. A number that none has gives the nearest: `is_bad_kind` tells.
 pub fn kind_of(k: u32) -> Kind
     ensures { λ r. ⌜ r ≡ kindOf k ⌝ }
 {
     match k {
-        1 => Kind::Lock,
+        0 | 1 => Kind::Lock,
         2 => Kind::Plain,
-        3 => Kind::Fast,
-        _ => Kind::Lock,
+        _ => Kind::Fast,
     }
 }

@@ -80,6 +80,11 @@ module _ (κ : Kind) (n size spare : ℕ) where
   starts-rule i [] = refl
   starts-rule i (x ∷ xs) = rw (start-rule n size spare i x κ, starts-rule (suc i) xs)
 
+pub first-start-low : (κ : Kind) → firstStart κ ≤ 1
+first-start-low Kind.Lock = omega arith
+first-start-low Kind.Plain = omega arith
+first-start-low Kind.Fast = omega arith
+
 -- LIMITS
 
 pub record Limits (most kind n size spare : ℕ) : Type 0 where

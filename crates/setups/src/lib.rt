@@ -68,14 +68,12 @@ fn is_bad_size(kind: Kind, n: usize, size: u32, spare: u32) -> bool
     }
 }
 
-// Whether x is not one of `count` numbers from `first` on.
+// Whether x is not one of `count` numbers from `first` on: one test, since below `first` the difference goes round to a large one.
 fn is_beyond(first: u8, count: u8, x: u8) -> bool
+    requires { ⌜ first + count ≤ 256 ⌝ }
     ensures { λ r. ⌜ r ≡ beyond first count x ⌝ }
 {
-    if x < first {
-        return true;
-    }
-    count <= x - first
+    count <= std::num::wrapping_sub_u8(x, first)
 }
 
 fn first_start(kind: Kind) -> u8

@@ -8,7 +8,7 @@ use lib.ListN.{length, drop, getD}
 use denote.Ref.{now}
 use Rattle.terms.proofs.RefusalLaws.{any-next, any-none}
 use Rattle.setups.specs.Setup.{beyond}
-use Rattle.setups.proofs.SetupLaws.{anyBeyond, starts-rule}
+use Rattle.setups.proofs.SetupLaws.{anyBeyond, starts-rule, first-start-low}
 use Rattle.setups.proofs.any_bad_start.Statement.{statement}
 use Rattle.setups.proofs.any_bad_start.Tie as tie
 
@@ -20,6 +20,12 @@ abbrev μ-loop : tie.MeasureT-loop
 
 loop-holds : tie.Need-loop-holds Inv-loop μ-loop
 loop-holds c = (omega arith, refl)
+
+-- a kind's numbers are bytes
+is-beyond-requires : tie.Need-is-beyond-requires Inv-loop μ-loop
+is-beyond-requires c κs =
+    let f = c .before .before .before in
+    omega (arith, f .first-start .ensures, first-start-low (f .before .before .args .kind))
 
 loop-again : tie.Need-loop-again Inv-loop μ-loop
 loop-again c =
@@ -55,7 +61,7 @@ any-bad-start-spec =
     (λ c κs. search needs)
     loop-holds
     (λ c. omega arith)
-    (λ c κs. search needs)
+    is-beyond-requires
     (λ c κs. search needs)
     (λ c. omega arith)
     (λ c. omega arith)
