@@ -21,7 +21,7 @@ use Rattle.registers.specs.Deadlines.{pairOf, due}
 use Rattle.registers.proofs.Pairs.{pair-below}
 use Rattle.bank.specs.declared.Bank.{Bank}
 use Rattle.bank.specs.Registers.{valueAt, deadlineAt}
-use Rattle.bank.specs.Calls.{readOf, written, writeOf}
+use Rattle.bank.specs.Calls.{readOf, doneOrLate, writeOf}
 use Rattle.bank.specs.History.{Call, caller, register, leaves, after, afterAll, Each, Elsewhere, NotRead, NotWrite, Sized}
 use Rattle.bank.proofs.Laws.{after-either, call-keeps-sizes, accepted-call-leaves-its-deadline, call-keeps-other-deadlines}
 use Rattle.bank.proofs.Laws.{call-keeps-value-unless-written, accepted-write-answers-by-the-deadline}
@@ -69,7 +69,7 @@ unbound-write-is-done b i c t v h f =
 -- After an accepted read at tick t with the wait d and any calls of other pairs, the pair's write is done up to t + d and late after.
 pub first-write-after-a-read-is-bound : (b : Bank) (i : ProcessNumber) (c : SlotNumber) (t d : ℕ) (ks : List Call) (t′ v : ℕ)
     → Sized b → readRefusal (b .last) i c t d ≡ 0 → Each (Elsewhere i c) ks → callRefusal (afterAll (readOf b i c t d .bank) ks .last) i c t′ ≡ 0
-    → writeOf (afterAll (readOf b i c t d .bank) ks) i c t′ v .answer ≡ written (ltb (due t d) t′)
+    → writeOf (afterAll (readOf b i c t d .bank) ks) i c t′ v .answer ≡ doneOrLate (ltb (due t d) t′)
 first-write-after-a-read-is-bound b i c t d ks t′ v s h o h′ =
     let p : IsPair i c = accepted-good (b .last) i c t (read-accepted-good (b .last) i c t d h .0) .0 in
     let bound : deadlineAt (afterAll (readOf b i c t d .bank) ks) i c ≡ due t d

@@ -22,7 +22,7 @@ use Rattle.registers.specs.Deadlines.{pairOf, due, writeGranted}
 use Rattle.registers.proofs.Pairs.{pair-below, pair-same}
 use Rattle.bank.specs.declared.Bank.{Bank}
 use Rattle.bank.specs.Registers.{bankOf, valueAt, deadlineAt, lateAt, afterRead, afterWrite}
-use Rattle.bank.specs.Calls.{readOf, written, writeOf}
+use Rattle.bank.specs.Calls.{readOf, doneOrLate, writeOf}
 use Rattle.bank.specs.History.{Call, caller, register, tickOf, leaves, refusalAt, after, Elsewhere, NotWrite, Sized}
 use Rattle.bank.proofs.Outcomes.{read-refused, read-given, write-refused, write-given}
 
@@ -48,7 +48,7 @@ module _ (b : Bank) (i : ProcessNumber) (c : SlotNumber) (t : ℕ) where
   read-result d h = sym (read-given (b .values) (b .deadlines) (b .last) i c t d (readRefusal (b .last) i c t d) refl h _ _ _ refl)
 
   write-result : (v : ℕ) → callRefusal (b .last) i c t ≡ 0
-      → writeOf b i c t v ≡ record { bank = afterWrite b i c t v; answer = written (lateAt b i c t) }
+      → writeOf b i c t v ≡ record { bank = afterWrite b i c t v; answer = doneOrLate (lateAt b i c t) }
   unfolding afterWrite
   write-result v h = sym (write-given b i c t v (callRefusal (b .last) i c t) refl h _ _ _ _ refl)
 
@@ -128,7 +128,7 @@ module _ (b : Bank) (i : ProcessNumber) (c : SlotNumber) (t : ℕ) where
       accepted-call-leaves-its-deadline (readOf b i c t d .bank) (Call.reading i c t′ d′) (call-keeps-sizes b (Call.reading i c t d) s) h
 
   module _ (v : ℕ) (h : callRefusal (b .last) i c t ≡ 0) where
-    pub accepted-write-answers-by-the-deadline : writeOf b i c t v .answer ≡ written (ltb (deadlineAt b i c) t)
+    pub accepted-write-answers-by-the-deadline : writeOf b i c t v .answer ≡ doneOrLate (ltb (deadlineAt b i c) t)
     accepted-write-answers-by-the-deadline = λ x. write-result b i c t v h x .answer
 
     pub write-in-time-stores : Sized b → t ≤ deadlineAt b i c → valueAt (writeOf b i c t v .bank) c ≡ v

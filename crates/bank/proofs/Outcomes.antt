@@ -16,7 +16,7 @@ use Rattle.refusals.proofs.Accepted.{accepted-good, read-accepted-good}
 use Rattle.registers.specs.Deadlines.{Seen, Stored, readGranted, writeGranted}
 use Rattle.bank.specs.declared.Bank.{Bank}
 use Rattle.bank.specs.Registers.{bankOf, bankSeen, bankStored, afterRead, afterWrite}
-use Rattle.bank.specs.Calls.{readOf, written, writeOf}
+use Rattle.bank.specs.Calls.{readOf, doneOrLate, writeOf}
 
 -- What an accepted call has shown of its numbers.
 pub write-pair : (last : ℕ) (i : ProcessNumber) (c : SlotNumber) (t r : ℕ) → r ≡ callRefusal last i c t → r ≡ 0 → IsPair i c
@@ -56,9 +56,9 @@ module _ (b : Bank) (i : ProcessNumber) (c : SlotNumber) (t v r : ℕ) (known : 
 
   module _ (h : r ≡ 0) (l : Bool) (values deadlines : List ℕ) (last : ℕ)
       (e : record { late = l; values = values; deadlines = deadlines; last = last } ≡ writeGranted (b .values) (b .deadlines) i c t v) where
-    pub write-given : record { bank = bankOf values deadlines last; answer = written l } ≡ writeOf b i c t v
+    pub write-given : record { bank = bankOf values deadlines last; answer = doneOrLate l } ≡ writeOf b i c t v
     unfolding writeOf afterWrite
-    write-given = rw (← known, h) (ap (λ (s : Stored). record { bank = bankStored s; answer = written (s .late) }) e)
+    write-given = rw (← known, h) (ap (λ (s : Stored). record { bank = bankStored s; answer = doneOrLate (s .late) }) e)
 
     pub given-late : l ≡ true → record { bank = bankOf values deadlines last; answer = WriteAnswer.Late } ≡ writeOf b i c t v
     given-late k = rw k at write-given

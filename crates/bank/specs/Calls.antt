@@ -18,11 +18,11 @@ readOf b i c t d =
     (record { bank = afterRead b i c t d; answer = ReadAnswer.Value (valueAt b c) })
     (record { bank = b; answer = ReadAnswer.Refused (readRefusal (b .last) i c t d) })
 
-abbrev pub written : Bool → WriteAnswer
-written late = cond late WriteAnswer.Late WriteAnswer.Done
+abbrev pub doneOrLate : Bool → WriteAnswer
+doneOrLate late = cond late WriteAnswer.Late WriteAnswer.Done
 
 unfoldable pub writeOf : Bank → ProcessNumber → SlotNumber → ℕ → ℕ → WriteResult
 writeOf b i c t v =
     ifAccepted (callRefusal (b .last) i c t)
-    (record { bank = afterWrite b i c t v; answer = written (lateAt b i c t) })
+    (record { bank = afterWrite b i c t v; answer = doneOrLate (lateAt b i c t) })
     (record { bank = b; answer = WriteAnswer.Refused (callRefusal (b .last) i c t) })

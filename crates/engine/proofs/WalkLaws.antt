@@ -33,17 +33,17 @@ use Rattle.engine.proofs.StepLaws.{back, stepped-after}
 -- at byte `at` of the records k of them are accepted, and led from the state x to the state s
 pub record Going (u : Shape) (x : State) (rest : List ℕ) (p : Parts) (at k : ℕ) : Type 0 where
   pub here : at ≡ k * 8
-  pub inside : at ≤ length rest
+  pub within : at ≤ length rest
   pub so-far : reach u x rest k ≡ going (stateIn p)
 
 pub sets-out : (u : Shape) (p : Parts) (rest : List ℕ) → Going u (stateIn p) rest p 0 0
-sets-out u p rest = record { here = refl; inside = omega arith; so-far = reach-start u (stateIn p) rest }
+sets-out u p rest = record { here = refl; within = omega arith; so-far = reach-start u (stateIn p) rest }
 
 -- at the end of the bytes
 pub arrives : {u : Shape} {x : State} {rest : List ℕ} {p : Parts} {at k : ℕ} → Going u x rest p at k → length rest ≤ at
     → Walked u x rest (record { number = 0; at = k }) p
 arrives {u} {x} {rest} {p} {at} {k} g h =
-    let all : records rest ≡ k = records-end rest k (omega (arith, g .here, g .inside)) in
+    let all : records rest ≡ k = records-end rest k (omega (arith, g .here, g .within)) in
     record { led = ap (reach u x rest) all ∙ g .so-far; counted = λ z. sym all }
 
 -- ONE RECORD MORE, of rows that stand in place
@@ -127,7 +127,7 @@ module _ {u : Shape} {x : State} {rest : List ℕ} {p : Parts} {at k : ℕ} (g :
       lands z long {q} tick m =
           record {
             here = omega (arith, g .here);
-            inside = whole;
+            within = whole;
             so-far =
                 accepted-by-both u x rest k (g .so-far) passed (sym judged ∙ sym judges ∙ z)
                 ∙ ap going (sym (same ∙ stepped-after u s (read .step) refl refl ∙ ap (after u s) fields));

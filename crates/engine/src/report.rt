@@ -14,7 +14,7 @@ use model::Place;
 use model::Shape;
 use rows::NUMBERS;
 
-fn shown(place: Place) -> u32
+fn shown_of(place: Place) -> u32
     ensures { λ n. ⌜ n ≡ shownOf place ⌝ }
 {
     match place {
@@ -37,7 +37,7 @@ fn shown_place(j: usize, rows: &[u32; NUMBERS]) -> u32
     if rows::is_crashed(j, rows) {
         return 9;
     }
-    shown(rows::place(j, rows))
+    shown_of(rows::place(j, rows))
 }
 
 fn figure(kind: Kind, j: usize, rows: &[u32; NUMBERS]) -> u32

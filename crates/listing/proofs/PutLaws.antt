@@ -25,15 +25,15 @@ pub put-then : {m n at i j : ℕ} {a b s t u : List ℕ} → Put m at a s i t �
 put-then {at = at} {a = a} {b = b} {s = s} p q =
     record {
       short = omega (arith, length-append a b, p .short, q .short);
-      inside = p .inside;
+      fits = p .fits;
       end = omega (arith, length-append a b, p .end, q .end);
-      text = rw (q .text, p .end, p .text) (spliced-then at a b s (p .inside));
+      text = rw (q .text, p .end, p .text) (spliced-then at a b s (p .fits));
     }
 
 -- nothing
 pub put-none : (at : ℕ) (s : List ℕ) → at ≤ length s → Put 0 at [] s at s
 unfolding spliced
-put-none at s h = record { short = omega arith; inside = h; end = omega arith; text = rw (add-zero, take-append-drop) }
+put-none at s h = record { short = omega arith; fits = h; end = omega arith; text = rw (add-zero, take-append-drop) }
 
 -- one byte
 pub put-one : (b at : ℕ) (s : List ℕ) → at < length s → Put 1 at (b ∷ []) s (at + 1) (set s at b)
@@ -41,7 +41,7 @@ unfolding spliced
 put-one b at s h =
     record {
       short = omega arith;
-      inside = omega arith;
+      fits = omega arith;
       end = refl;
       text = rw (add-one, set-split s at b h);
     }
@@ -55,7 +55,7 @@ put-copied word at s part h e =
     let after : drop (length s - at) (drop at s) ≡ [] = drop-of-length-le (drop at s) {i = length s - at} (omega (arith, length-drop at s)) in
     record {
       short = omega arith;
-      inside = omega arith;
+      fits = omega arith;
       end = refl;
       text = rw (after, append-nil, e, take-length, part-to-end, drop-drop);
     }
@@ -65,7 +65,7 @@ pub put-is : {m at i : ℕ} {a s t : List ℕ} → Put m at a s i t → {b : Lis
 put-is p e = rw e at p
 
 pub put-within : {m at i : ℕ} {a s t : List ℕ} → Put m at a s i t → (n : ℕ) → length a ≤ n → Put n at a s i t
-put-within p n h = record { short = h; inside = p .inside; end = p .end; text = p .text }
+put-within p n h = record { short = h; fits = p .fits; end = p .end; text = p .text }
 
 -- DIGITS
 

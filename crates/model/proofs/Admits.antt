@@ -20,12 +20,12 @@ use Rattle.model.specs.Run.{rowOf, isMove, judge, recordRefusal}
 
 pub record Admitted (u : Shape) (s : State) (k : Step) : Type 0 where
   pub process : 1 ≤ k .process .0
-  pub inside : indexOf (k .process) < u .count
+  pub among : indexOf (k .process) < u .count
   pub event : k .event ≤ 1
   pub top : k .tick ≤ topTick
   pub later : s .newest ≤ k .tick
   pub alive : rowOf s (k .process) .crashed ≡ false
-  pub unsettled : isMove k ≡ true → isDecided (rowOf s (k .process) .local .place) ≡ false
+  pub undecided : isMove k ≡ true → isDecided (rowOf s (k .process) .local .place) ≡ false
   pub awake : isMove k ≡ true → rowOf s (k .process) .local .wake ≤ k .tick
 
 and-false : (a b : Bool) → (a && b) ≡ false → a ≡ true → b ≡ false
@@ -49,12 +49,12 @@ module _ (u : Shape) (s : State) (bytes : List ℕ) where
       let p14 = passed 13 _ (r .crashed) (p15 .0) in
       record {
         process = limits .processLow;
-        inside = omega (arith, limits .processLow, limits .processHigh);
+        among = omega (arith, limits .processLow, limits .processHigh);
         event = limits .eventHigh;
         top = limits .tickHigh;
         later = ltb-false _ _ (refuse-false 12 _ (p14 .0));
         alive = p14 .1;
-        unsettled = and-false _ _ (p15 .1);
+        undecided = and-false _ _ (p15 .1);
         awake = λ e. ltb-false _ _ (and-false _ _ (p16 .1) e);
       }
 
@@ -65,6 +65,6 @@ module _ (u : Shape) (s : State) (bytes : List ℕ) where
         h,
         le-ltb _ _ (ad .later),
         ad .alive,
-        false-and _ _ (ad .unsettled),
+        false-and _ _ (ad .undecided),
         false-and _ _ (λ e. le-ltb _ _ (ad .awake e)),
       )

@@ -25,7 +25,7 @@ use Rattle.model.specs.Bounds.{Sound, Starts}
 use Rattle.model.specs.Run.{rowAt, rowOf, fresh, moveAt, stepAt, reach, Progress.going}
 use Rattle.model.specs.Claims.{Within}
 use Rattle.model.specs.Report.{shownPlace, figureOf}
-use Rattle.model.proofs.Places.{imply, differ, inKind, timedDecision, settled, past, inside}
+use Rattle.model.proofs.Places.{imply, differ, inKind, timedDecision, concluded, past, inside}
 use Rattle.model.proofs.World.{World, ordinary, clock}
 use Rattle.model.proofs.LockSafe.{LockInv, exclusion, exit-in-time}
 use Rattle.model.proofs.DecideSafe.{DecideInv, agreement}
@@ -53,14 +53,14 @@ lock-inv (Routine.Lock how) u w p a b inv = inv
 lock-inv Routine.Plain u w p a b inv = absurd (differ (reachable Routine.Plain) inside tt p a b)
 lock-inv Routine.Fast u w p a b inv = absurd (differ (reachable Routine.Fast) inside tt p a b)
 
-decide-inv : (κ : Routine) (u : Shape) (w : World) (p : Place) → T (reachable κ p) → T (settled p) → Inv ordinary κ u w
+decide-inv : (κ : Routine) (u : Shape) (w : World) (p : Place) → T (reachable κ p) → T (concluded p) → Inv ordinary κ u w
     → T (timedDecision κ) × DecideInv (clock ordinary (u .delta)) w
-decide-inv (Routine.Lock how) u w p a b inv = absurd (differ (reachable (Routine.Lock how)) settled tt p a b)
+decide-inv (Routine.Lock how) u w p a b inv = absurd (differ (reachable (Routine.Lock how)) concluded tt p a b)
 decide-inv Routine.Plain u w p a b inv = (tt, inv)
 decide-inv Routine.Fast u w p a b inv = (tt, inv .decide)
 
-settled-past : (p : Place) → T (settled p) → T (past p)
-settled-past = imply settled past tt
+concluded-past : (p : Place) → T (concluded p) → T (past p)
+concluded-past = imply concluded past tt
 
 -- what a process of a decision writes is its start byte
 own-begins : (κ : Routine) (j x : ℕ) → T (timedDecision κ) → begin κ j x .own ≡ x
@@ -74,7 +74,7 @@ slot-figure (Routine.Lock how) p a b r = refl
 slot-figure Routine.Plain p a b r = absurd (differ (reachable Routine.Plain) inside tt p a b)
 slot-figure Routine.Fast p a b r = absurd (differ (reachable Routine.Fast) inside tt p a b)
 
-decision-figure : (κ : Routine) → T (timedDecision κ) → (r : Row) → figureOf κ r ≡ r .local .decided
+pub decision-figure : (κ : Routine) → T (timedDecision κ) → (r : Row) → figureOf κ r ≡ r .local .decided
 decision-figure (Routine.Lock how) h r = absurd h
 decision-figure Routine.Plain h r = refl
 decision-figure Routine.Fast h r = refl
@@ -143,7 +143,7 @@ module _ {u : Shape} {s : State} (point : Point u s) where
         (omega (arith, good .kept .values, slot-small (routine u) u so (indexOf i) (rowOf s i) (good .kept .each (indexOf i)))))
 
   -- THE DECISIONS
-  module _ (j : ℕ) (a : T (settled (rowAt s j .local .place))) where
+  module _ (j : ℕ) (a : T (concluded (rowAt s j .local .place))) where
     of-decision : T (timedDecision (routine u)) × DecideInv (clock ordinary (u .delta)) seen
     of-decision = decide-inv (routine u) u seen (rowAt s j .local .place) (reaches j) a (good .inv)
 
@@ -151,26 +151,26 @@ module _ {u : Shape} {s : State} (point : Point u s) where
     pub decision-real : rowAt s j .local .decided ≢ 0
     decision-real z =
         let inv = of-decision .1 in
-        inv .filled j (settled-past (rowAt s j .local .place) a) (sym (inv .settled j a .stands) ∙ z)
+        inv .filled j (concluded-past (rowAt s j .local .place) a) (sym (inv .concluded j a .stands) ∙ z)
 
     -- two that decided decided alike
-    pub one-decision : (i : ℕ) → T (settled (rowAt s i .local .place)) → rowAt s i .local .decided ≡ rowAt s j .local .decided
+    pub one-decision : (i : ℕ) → T (concluded (rowAt s i .local .place)) → rowAt s i .local .decided ≡ rowAt s j .local .decided
     one-decision i b = agreement (clock ordinary (u .delta)) seen (of-decision .1) i j b a
 
     -- what it decided stands in the register
     pub decision-stands : valueAt (s .bank) (slotOf 0) ≡ rowAt s j .local .decided
-    decision-stands = sym (of-decision .1 .settled j a .stands)
+    decision-stands = sym (of-decision .1 .concluded j a .stands)
 
     proposer : Proposer (u .count) (rowAt s j .local .decided) (seen .seat)
     proposer =
         let p = along (HasProposer (u .count)) (proposed-along ordinary u (of-decision .0)) (proposed-start u) in
-        rw (of-decision .1 .settled j a .stands) (p (of-decision .1 .filled j (settled-past (rowAt s j .local .place) a)))
+        rw (of-decision .1 .concluded j a .stands) (p (of-decision .1 .filled j (concluded-past (rowAt s j .local .place) a)))
 
     own-stays : (i : ℕ) → rowAt s i .own ≡ rowAt (fresh u xs) i .own
     own-stays =
         each-kept u so xs (point .starts) (point .rest) (λ k s. (i : ℕ) → rowAt s i .own ≡ rowAt (fresh u xs) i .own) (λ i. refl)
         (λ k s e kt ad old.
-        turn u s (stepAt (point .rest) k) (omega (arith, kt .rows, ad .inside)) (λ i r. r .own ≡ rowAt (fresh u xs) i .own) (λ i n. old i) (λ b. old _)
+        turn u s (stepAt (point .rest) k) (omega (arith, kt .rows, ad .among)) (λ i r. r .own ≡ rowAt (fresh u xs) i .own) (λ i n. old i) (λ b. old _)
         (λ b. old _))
         (point .k) (point .led) .1
 
@@ -188,12 +188,12 @@ module _ {u : Shape} {s : State} (point : Point u s) where
   pub undecided-none : (j : ℕ) → rowAt s j .local .place ≢ Place.Decided → rowAt s j .local .decided ≡ 0
   undecided-none j = good .kept .each j .undecided
 
-  value-decided : (j : ℕ) → rowAt s j .local .decided ≢ 0 → T (settled (rowAt s j .local .place))
-  value-decided j n = by (settled (rowAt s j .local .place)) refl
+  value-decided : (j : ℕ) → rowAt s j .local .decided ≢ 0 → T (concluded (rowAt s j .local .place))
+  value-decided j n = by (concluded (rowAt s j .local .place)) refl
     where
-      by : (b : Bool) → settled (rowAt s j .local .place) ≡ b → T b
+      by : (b : Bool) → concluded (rowAt s j .local .place) ≡ b → T b
       by true e = tt
-      by false e = absurd (n (undecided-none j (λ q. false≢true (sym e ∙ ap settled q))))
+      by false e = absurd (n (undecided-none j (λ q. false≢true (sym e ∙ ap concluded q))))
 
   -- MOVES
   capped : T (timedDecision (routine u)) → Capped u seen
@@ -223,7 +223,7 @@ module _ {u : Shape} {s : State} (point : Point u s) where
     figure : (j : ℕ) → figureOf (routine u) (rowAt s j) ≡ rowAt s j .local .decided
     figure j = decision-figure (routine u) n (rowAt s j)
 
-    figured : (j : ℕ) → figureOf (routine u) (rowAt s j) ≢ 0 → T (settled (rowAt s j .local .place))
+    figured : (j : ℕ) → figureOf (routine u) (rowAt s j) ≢ 0 → T (concluded (rowAt s j .local .place))
     figured j a = value-decided j (λ z. a (figure j ∙ z))
 
     pub shown-agreement : (i j : ℕ) → figureOf (routine u) (rowAt s i) ≢ 0 → figureOf (routine u) (rowAt s j) ≢ 0

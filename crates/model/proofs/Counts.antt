@@ -75,7 +75,7 @@ module _ (u : Shape) (f : Row → ℕ) (test : Progress → Step → Bool) (c : 
     one-more k s e kt ad so-far =
         let here = stepAt rest k in
         let i = indexOf (here .process) in
-        turn u s here (omega (arith, kt .rows, ad .inside)) (λ j r. f r ≡ tallyOf j (suc k))
+        turn u s here (omega (arith, kt .rows, ad .among)) (λ j r. f r ≡ tallyOf j (suc k))
         (λ j n. omega (arith, so-far j, uncounted (test (reach u (fresh u xs) rest k) here) _ (others-move here (ad .process) j n)))
         (λ b. omega (arith, so-far i, c .stops (rowAt s i), uncounted (test (reach u (fresh u xs) rest k) here) _ (own-move here (ad .process) ∙ b)))
         (λ b.

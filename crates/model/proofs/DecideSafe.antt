@@ -9,13 +9,13 @@ use native.Mathlib.Decide.{ℕ-discrete}
 use lib.Dec.{T}
 use Rattle.model.specs.declared.Place.{Place}
 use Rattle.model.specs.Routine.{Routine, counted, crash, plainNext}
-use Rattle.model.proofs.Places.{imply, differ, inKind, putting, settled, checking, past}
+use Rattle.model.proofs.Places.{imply, differ, inKind, putting, concluded, checking, past}
 use Rattle.model.proofs.World.{Seat, Commons, World, Placed, Putting, Clock, wakeOf, Moves, put, put-all, put-same, moved, crashed, slotAt}
 use Rattle.model.proofs.World.{wakeOn, ownOf}
 use Rattle.model.proofs.Pattern.{LateFrom, Bound, read-binds, stays-bound, wait-outlasts, Definitive, Touches, definitive-stands}
 
 abbrev pub HasDecided : Seat → Type 0
-HasDecided = Placed settled
+HasDecided = Placed concluded
 
 abbrev pub Checking : Seat → Type 0
 Checking = Placed checking
@@ -23,8 +23,8 @@ Checking = Placed checking
 abbrev pub Past : Seat → Type 0
 Past = Placed past
 
-settled-checking : (s : Seat) → HasDecided s → Checking s
-settled-checking s = imply settled checking tt (s .row .local .place)
+concluded-checking : (s : Seat) → HasDecided s → Checking s
+concluded-checking s = imply concluded checking tt (s .row .local .place)
 
 checking-past : (s : Seat) → Checking s → Past s
 checking-past s = imply checking past tt (s .row .local .place)
@@ -38,7 +38,7 @@ pub record DecidedAt (y floor : ℕ) (s : Seat) : Type 0 where
 
 pub record DecideInv (k : Clock) (w : World) : Type 0 where
   pub filled : (i : ℕ) → Past (w .seat i) → w .value 0 ≢ 0
-  pub settled : (i : ℕ) → HasDecided (w .seat i) → DecidedAt (w .value 0) (w .floor) (w .seat i)
+  pub concluded : (i : ℕ) → HasDecided (w .seat i) → DecidedAt (w .value 0) (w .floor) (w .seat i)
   -- who is about to write is late once the wait is over of one about to check
   pub waited : (i : ℕ) → Checking (w .seat i) → wakeOn (w .seat i) ≢ 0 → LateFrom w 0 (wakeOn (w .seat i))
   -- or, if that one had no wait, writes what stands there
@@ -47,16 +47,16 @@ pub record DecideInv (k : Clock) (w : World) : Type 0 where
 
 pub agreement : (k : Clock) (w : World) → DecideInv k w → (i j : ℕ) → HasDecided (w .seat i) → HasDecided (w .seat j)
     → w .seat i .row .local .decided ≡ w .seat j .row .local .decided
-agreement k w inv i j a b = inv .settled i a .stands ∙ sym (inv .settled j b .stands)
+agreement k w inv i j a b = inv .concluded i a .stands ∙ sym (inv .concluded j b .stands)
 
 -- the register of who decided after a wait has its definitive value (Theorem 1)
-pub settled-definitive : (k : Clock) (w : World) → DecideInv k w → (i : ℕ) → HasDecided (w .seat i) → wakeOn (w .seat i) ≢ 0 → Definitive w 0
-settled-definitive k w inv i a n =
-    let c = settled-checking (w .seat i) a in
+pub concluded-definitive : (k : Clock) (w : World) → DecideInv k w → (i : ℕ) → HasDecided (w .seat i) → wakeOn (w .seat i) ≢ 0 → Definitive w 0
+concluded-definitive k w inv i a n =
+    let c = concluded-checking (w .seat i) a in
     record {
       filled = inv .filled i (checking-past (w .seat i) c);
       wake = wakeOn (w .seat i);
-      over = inv .settled i a .woken;
+      over = inv .concluded i a .woken;
       late = inv .waited i c n;
     }
 
@@ -66,7 +66,7 @@ settled-definitive k w inv i a n =
 pub record Sits (k : Clock) (w : World) (m : ℕ) (s : Seat) (y f : ℕ) : Type 0 where
   later : w .floor ≤ f
   filled : Past s → y ≢ 0
-  settled : HasDecided s → DecidedAt y f s
+  concluded : HasDecided s → DecidedAt y f s
   waited : Checking s → wakeOn s ≢ 0 → LateFrom w 0 (wakeOn s)
   agreed : Checking s → wakeOn s ≡ 0 → (j : ℕ) → Putting (w .seat j) → ownOf (w .seat j) ≡ y
   joins : Putting s → slotAt s ≡ 0 → (i : ℕ) → Checking (w .seat i) → wakeOn (w .seat i) ≢ 0 → s .deadline < wakeOn (w .seat i)
@@ -83,10 +83,10 @@ pub seated : (k : Clock) (w : World) (m : ℕ) (s : Seat) (v : ℕ → ℕ) (g :
 seated k w m s v g f inv sit =
     record {
       filled = put-all (λ i x. Past x → v 0 ≢ 0) (sit .filled) (λ i n a. sit .stays (inv .filled i a));
-      settled =
-          put-all (λ i x. HasDecided x → DecidedAt (v 0) f x) (sit .settled)
+      concluded =
+          put-all (λ i x. HasDecided x → DecidedAt (v 0) f x) (sit .concluded)
           (λ i n a.
-          let o = inv .settled i a in
+          let o = inv .concluded i a in
           let l = sit .later in
           record { stands = o .stands ∙ sit .keeps i a; woken = omega arith });
       waited =
@@ -121,7 +121,7 @@ module _ (k : Clock) (w : World) (m t : ℕ) (inv : DecideInv k w) (later : w .f
       record {
         later = on-time;
         filled = a;
-        settled = λ x. absurd (c x);
+        concluded = λ x. absurd (c x);
         waited = λ x. absurd (b x);
         agreed = λ x. absurd (b x);
         joins = λ x. absurd (d x);
@@ -140,7 +140,7 @@ module _ (k : Clock) (w : World) (m t : ℕ) (inv : DecideInv k w) (later : w .f
       record {
         later = on-time;
         filled = λ x. absurd (a x);
-        settled = λ x. absurd (c x);
+        concluded = λ x. absurd (c x);
         waited = λ x. absurd (b x);
         agreed = λ x. absurd (b x);
         joins = λ x u i h. absurd (inv .filled i (checking-past (w .seat i) h) z);
@@ -160,7 +160,7 @@ module _ (k : Clock) (w : World) (m t : ℕ) (inv : DecideInv k w) (later : w .f
       record {
         later = on-time;
         filled = λ x. absurd (a x);
-        settled = λ x. absurd (c x);
+        concluded = λ x. absurd (c x);
         waited = λ x. absurd (b x);
         agreed = λ x. absurd (b x);
         joins = λ x. absurd (d x);
@@ -173,9 +173,9 @@ module _ (k : Clock) (w : World) (m t : ℕ) (inv : DecideInv k w) (later : w .f
       }
     where
       kept : (i : ℕ) → HasDecided (w .seat i) → Dec (wakeOn (w .seat i) ≡ 0) → w .value 0 ≡ ownOf (w .seat m)
-      kept i x (yes e) = sym (inv .agreed i m (settled-checking (w .seat i) x) e p)
+      kept i x (yes e) = sym (inv .agreed i m (concluded-checking (w .seat i) x) e p)
       kept i x (no n) =
-          sym (definitive-stands w 0 m t (settled-definitive k w inv i x n) later (Touches.write p h))
+          sym (definitive-stands w 0 m t (concluded-definitive k w inv i x n) later (Touches.write p h))
           ∙ put-at (w .value) (slotAt (w .seat m)) (ownOf (w .seat m)) u
 
   -- the wait
@@ -184,7 +184,7 @@ module _ (k : Clock) (w : World) (m t : ℕ) (inv : DecideInv k w) (later : w .f
       record {
         later = on-time;
         filled = λ x. inv .filled m a;
-        settled = λ x. absurd (c x);
+        concluded = λ x. absurd (c x);
         waited = λ x e. rw u (wait-outlasts k w t 0 (inv .bound) later);
         agreed = λ x e. absurd (omega arith);
         joins = λ x. absurd (d x);
@@ -204,7 +204,7 @@ module _ (k : Clock) (w : World) (m t : ℕ) (inv : DecideInv k w) (later : w .f
       record {
         later = on-time;
         filled = λ x. a;
-        settled = λ x. absurd (c x);
+        concluded = λ x. absurd (c x);
         waited = λ x e. absurd (e u);
         agreed = λ x e. q;
         joins = λ x. absurd (d x);
@@ -223,7 +223,7 @@ module _ (k : Clock) (w : World) (m t : ℕ) (inv : DecideInv k w) (later : w .f
       record {
         later = on-time;
         filled = λ x. inv .filled m (checking-past (w .seat m) a);
-        settled = λ x. record { stands = v; woken = rw u awake };
+        concluded = λ x. record { stands = v; woken = rw u awake };
         waited = λ x e. rw u (inv .waited m a (rw u at e));
         agreed = λ x e j p. inv .agreed m j a (sym u ∙ e) p;
         joins = λ x. absurd (d x);
@@ -278,9 +278,9 @@ decide-crashes k w m t later inv =
     (record {
       later = omega (arith, k .onward t);
       filled = inv .filled m;
-      settled =
+      concluded =
           λ a.
-          let o = inv .settled m a in
+          let o = inv .concluded m a in
           record { stands = o .stands; woken = omega (arith, k .onward t) };
       waited = inv .waited m;
       agreed = λ a e j. inv .agreed m j a e;

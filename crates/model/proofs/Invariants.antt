@@ -24,7 +24,7 @@ use Rattle.model.specs.Memory.{reply}
 use Rattle.model.specs.Bounds.{Sound, Starts}
 use Rattle.model.specs.Sizes.{flagCount}
 use Rattle.model.specs.Run.{rowAt, rowOf, fresh, move, stop, after, stepTape, reach, Progress.going}
-use Rattle.model.proofs.Places.{differ, begins, putting, scanning, raised, settled, checking, past, inside}
+use Rattle.model.proofs.Places.{differ, begins, putting, scanning, raised, concluded, checking, past, inside}
 use Rattle.model.proofs.World.{Commons, World, Pace, ordinary, clock, Moves, moved, crashed, slotAt, ownOf}
 use Rattle.model.proofs.LockSafe.{LockInv, lock-moves, lock-crashes}
 use Rattle.model.proofs.DecideSafe.{DecideInv, plain-moves, decide-crashes}
@@ -172,7 +172,7 @@ inv-start c (Routine.Lock how) u w bare ok =
 inv-start c Routine.Plain u w bare ok =
     record {
       filled = λ i a. absurd (differ (begins Routine.Plain) past tt (w .seat i .row .local .place) (bare .rows i .place) a);
-      settled = λ i a. absurd (differ (begins Routine.Plain) settled tt (w .seat i .row .local .place) (bare .rows i .place) a);
+      concluded = λ i a. absurd (differ (begins Routine.Plain) concluded tt (w .seat i .row .local .place) (bare .rows i .place) a);
       waited = λ i a. absurd (differ (begins Routine.Plain) checking tt (w .seat i .row .local .place) (bare .rows i .place) a);
       agreed = λ i j a. absurd (differ (begins Routine.Plain) checking tt (w .seat i .row .local .place) (bare .rows i .place) a);
       bound = λ j a. absurd (differ (begins Routine.Plain) putting tt (w .seat j .row .local .place) (bare .rows j .place) a);
@@ -182,7 +182,7 @@ inv-start c Routine.Fast u w bare ok =
       decide =
           record {
             filled = λ i a. absurd (differ (begins Routine.Fast) past tt (w .seat i .row .local .place) (bare .rows i .place) a);
-            settled = λ i a. absurd (differ (begins Routine.Fast) settled tt (w .seat i .row .local .place) (bare .rows i .place) a);
+            concluded = λ i a. absurd (differ (begins Routine.Fast) concluded tt (w .seat i .row .local .place) (bare .rows i .place) a);
             waited = λ i a. absurd (differ (begins Routine.Fast) checking tt (w .seat i .row .local .place) (bare .rows i .place) a);
             agreed = λ i j a. absurd (differ (begins Routine.Fast) checking tt (w .seat i .row .local .place) (bare .rows i .place) a);
             bound = λ j a. absurd (differ (begins Routine.Fast) putting tt (w .seat j .row .local .place) (bare .rows j .place) a);
@@ -231,9 +231,9 @@ module _ (u : Shape) (so : Sound u) (P : World → Type 0) (al : Along ordinary 
   good-record s k ad good =
       move-or-stop u s k (Good ordinary u so P al (k .tick))
       (λ e.
-      good-move ordinary u so P al (s .newest) s good (k .process) (k .tick) (ad .inside) (ad .later) (ad .top)
-      (record { undecided = ad .unsettled e; awake = ad .awake e }))
-      (λ e. good-stop ordinary u so P al (s .newest) s good (k .process) (k .tick) (ad .inside) (ad .later))
+      good-move ordinary u so P al (s .newest) s good (k .process) (k .tick) (ad .among) (ad .later) (ad .top)
+      (record { undecided = ad .undecided e; awake = ad .awake e }))
+      (λ e. good-stop ordinary u so P al (s .newest) s good (k .process) (k .tick) (ad .among) (ad .later))
 
   module _ (xs : List ℕ) (st : Starts u xs) (first : (w : World) → Bare (routine u) w → P w) where
     good-fresh : Good ordinary u so P al (fresh u xs .newest) (fresh u xs)

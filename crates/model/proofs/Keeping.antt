@@ -112,7 +112,7 @@ module _ (u : Shape) (so : Sound u) (s : State) (kt : Kept u s) where
 
   pub kept-after : (k : Step) → Admitted u s k → Kept u (after u s k)
   kept-after k ad =
-      move-or-stop u s k (Kept u) (λ e. kept-move (k .process) (k .tick) (ad .inside) (ad .unsettled e)) (λ e. kept-stop (k .process) (k .tick) (ad .inside))
+      move-or-stop u s k (Kept u) (λ e. kept-move (k .process) (k .tick) (ad .among) (ad .undecided e)) (λ e. kept-stop (k .process) (k .tick) (ad .among))
 
 -- A RUN, from its beginning
 

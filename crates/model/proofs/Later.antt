@@ -53,8 +53,8 @@ module _ (u : Shape) (so : Sound u) (xs : List ℕ) (st : Starts u xs) (rest : L
   decided-stays i v j then =
       from-then (λ s. DecidedOn v (rowAt s i)) j then
       (λ k s kt ad old.
-      turn u s (stepAt rest k) (omega (arith, kt .rows, ad .inside)) (λ m r. m ≡ i → DecidedOn v r) (λ m n e. rw e old) (λ b e. rw e old)
-      (λ b e. absurd (moved s (stepAt rest k) old e (ad .unsettled b))) i refl)
+      turn u s (stepAt rest k) (omega (arith, kt .rows, ad .among)) (λ m r. m ≡ i → DecidedOn v r) (λ m n e. rw e old) (λ b e. rw e old)
+      (λ b e. absurd (moved s (stepAt rest k) old e (ad .undecided b))) i refl)
     where
       moved : (s : State) (k : Step) → DecidedOn v (rowAt s i) → indexOf (k .process) ≡ i
           → isDecided (rowAt s (indexOf (k .process)) .local .place) ≡ false → ⊥

@@ -64,8 +64,8 @@ scanning p = eqb (codeOf p) 7
 abbrev pub raised : Place → Bool
 raised p = eqb (codeOf p) 1 || eqb (codeOf p) 2
 
-abbrev pub settled : Place → Bool
-settled p = eqb (codeOf p) 8
+abbrev pub concluded : Place → Bool
+concluded p = eqb (codeOf p) 8
 
 -- in a decision: about to check, or decided; past a look that found the register filled
 abbrev pub checking : Place → Bool
@@ -140,7 +140,7 @@ pub differ : (f g : Place → Bool) → T (everywhere (λ p. not (f p && g p))) 
 differ f g t p = clash (f p) (g p) (every-place (λ q. not (f q && g q)) t p)
 
 -- the class of the decided is one place
-pub decided-place : (p : Place) → T (settled p) → p ≡ Place.Decided
+pub decided-place : (p : Place) → T (concluded p) → p ≡ Place.Decided
 decided-place Place.Rest h = absurd h
 decided-place Place.Look h = absurd h
 decided-place Place.Put h = absurd h

@@ -18,10 +18,10 @@ use Rattle.model.specs.Bounds.{Bytes}
 use Rattle.model.specs.Run.{rowAt, shape, restOf, records, startOf, reached, runOf, Progress.going, Progress.stopped}
 use Rattle.model.specs.Report.{ranOf}
 use Rattle.model.specs.Claims.{At, Decides, Proposed, Within, Counted, movesIn, latesIn, Decision, shown, ShownProposed, ShownWithin}
-use Rattle.model.proofs.Places.{timedDecision, settled}
+use Rattle.model.proofs.Places.{timedDecision, concluded}
 use Rattle.model.proofs.RunLaws.{follow-same, run-going}
 use Rattle.model.proofs.SetupSays.{setup-sound, setup-starts, run-said}
-use Rattle.model.proofs.Consequences.{Point, decision-proposed, plain-bound, fast-bound, shown-exclusion, shown-agreement, shown-proposed}
+use Rattle.model.proofs.Consequences.{Point, decision-figure, decision-proposed, plain-bound, fast-bound, shown-exclusion, shown-agreement, shown-proposed}
 use Rattle.model.proofs.Consequences.{shown-undecided, shown-decided, shown-done}
 use Rattle.model.proofs.Counts.{run-counts}
 use Rattle.model.proofs.Later.{decided-stays}
@@ -57,7 +57,7 @@ start-byte : {most : ℕ} {trace : List ℕ} {k : ℕ} {s : State} → At most t
     → getD (places most (startBytes trace)) j 0 ≡ byte (8 + j) trace
 start-byte {most} {trace} at j h = place-at trace (setup-said most trace (at .setup) .head .whole) most j h
 
-pub proposed-there : {most : ℕ} {trace : List ℕ} {k : ℕ} {s : State} → At most trace k s → (j : ℕ) → T (settled (rowAt s j .local .place))
+pub proposed-there : {most : ℕ} {trace : List ℕ} {k : ℕ} {s : State} → At most trace k s → (j : ℕ) → T (concluded (rowAt s j .local .place))
     → Proposed trace s (rowAt s j .local .decided)
 proposed-there at j a =
     let p = decision-proposed (point at) j a in
@@ -109,6 +109,9 @@ module _ (most : ℕ) (trace old : List ℕ) (bytes : Bytes trace) (accepted : r
             proposed = sym (start-byte at-end (p .0) (p .1)) ∙ p .2 ∙ sym (x .figure);
             moved = rw (shows most trace old (end .1) (p .0) (p .1) .moves) (p .3);
           }
+
+      pub row-value : {s : State} → runOf most trace (length old) ≡ going s → shown most trace old j 1 ≡ rowAt s j .local .decided
+      row-value {s} e = shows most trace old e j h .figure ∙ decision-figure (routine (shape trace)) timed (rowAt s j)
 
       pub row-undecided : shown most trace old j 0 ≢ 8 → shown most trace old j 0 ≢ 9 → shown most trace old j 1 ≡ 0
       row-undecided a b =

@@ -22,7 +22,7 @@ use Rattle.model.specs.Sizes.{lineWidth}
 use Rattle.model.specs.Run.{blank, rowAt, Tape, advance, follow, runOn, restOf, records, shape, runOf, Progress, Progress.going, Progress.stopped}
 use Rattle.model.specs.Claims.{shown}
 use Rattle.model.specs.Report.{shownOf, shownPlace, figureOf, line, lines, reportOf, outcomeOf, ranOf}
-use Rattle.model.proofs.Places.{imply, settled, inside}
+use Rattle.model.proofs.Places.{imply, concluded, inside}
 use Rattle.model.proofs.ReportLaws.{length-lines}
 use Rattle.model.proofs.RunLaws.{going-stopped}
 
@@ -165,8 +165,8 @@ live P n q f r e = by (r .crashed) e
 pub shows-inside : (r : Row) → shownPlace r ≡ 5 → T (inside (r .local .place))
 shows-inside = live inside 5 (λ e. omega arith) (λ p e. imply (λ q. eqb (shownOf q) 5) inside tt p (rw e tt))
 
-pub shows-decided : (r : Row) → shownPlace r ≡ 8 → T (settled (r .local .place))
-shows-decided = live settled 8 (λ e. omega arith) (λ p e. imply (λ q. eqb (shownOf q) 8) settled tt p (rw e tt))
+pub shows-decided : (r : Row) → shownPlace r ≡ 8 → T (concluded (r .local .place))
+shows-decided = live concluded 8 (λ e. omega arith) (λ p e. imply (λ q. eqb (shownOf q) 8) concluded tt p (rw e tt))
 
 -- a row that has decided shows 8, or 9 where it crashed
 pub decided-shows : (r : Row) → r .local .place ≡ Place.Decided → shownPlace r ≢ 9 → shownPlace r ≡ 8

@@ -16,7 +16,7 @@ use Rattle.model.specs.Time.{wakeAt}
 use Rattle.model.specs.Routine.{Routine, routine, to, scans, counted, crash, scanAt, plainNext, fastNext, nextOf}
 use Rattle.model.specs.Claims.{Within}
 use Rattle.model.proofs.Places.{and-left, and-right, everywhere, every-place, imply, differ, timedDecision, inKind, begins, putting, scanning}
-use Rattle.model.proofs.Places.{looking, past, settled, inside, decided-place}
+use Rattle.model.proofs.Places.{looking, past, concluded, inside, decided-place}
 use Rattle.model.proofs.World.{Seat, Commons, World, Clock, Pace, clock, Moves, put, put-all, put-same, slotAt, ownOf}
 use Rattle.model.proofs.DecideSafe.{put-at}
 use Rattle.model.proofs.Keeping.{RowOk}
@@ -329,7 +329,7 @@ capped-start u w bare i = cap-zero (routine u) u (w .value 0) (w .seat i .row) (
 
 -- a table of most moves that has 5 where a process has decided and less elsewhere
 abbrev Ends : (Place → ℕ) → Place → Bool
-Ends f p = leb (f p) 5 && (not (leb 5 (f p)) || settled p)
+Ends f p = leb (f p) 5 && (not (leb 5 (f p)) || concluded p)
 
 ends-within : (f : Place → ℕ) → T (everywhere (Ends f)) → (r : Row) (x b : ℕ) → x ≤ b → r .moves ≤ 2 * r .lates + (x + f (r .local .place))
     → Within (b + 5 + 2 * r .lates) r
@@ -348,7 +348,7 @@ ends-within f test r x b h c =
         by true e z = leb-true n 5 e
         by false e z = absurd z
 
-    ends : (n : ℕ) → T (not (leb 5 n) || settled (r .local .place)) → 5 ≤ n → T (settled (r .local .place))
+    ends : (n : ℕ) → T (not (leb 5 n) || concluded (r .local .place)) → 5 ≤ n → T (concluded (r .local .place))
     ends n q g = rw (le-leb 5 n g) at q
 
 pub plain-within : (u : Shape) (y : ℕ) (r : Row) → Cap Routine.Plain u y r → Within (5 + 2 * r .lates) r

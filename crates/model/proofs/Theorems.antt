@@ -9,6 +9,7 @@ use mathlib.Core.Bool.{false}
 use mathlib.Core.List.{List}
 use native.Mathlib.Omega.{arith}
 use native.Mathlib.Decide.{decLt}
+use lib.ListN.{length}
 use Rattle.terms.specs.declared.ProcessNumber.{ProcessNumber}
 use Rattle.terms.specs.declared.SlotNumber.{SlotNumber}
 use Rattle.terms.specs.Limits.{topTick}
@@ -26,7 +27,7 @@ use Rattle.model.proofs.Counts.{reach-counts}
 use Rattle.model.proofs.Consequences.{one-inside, number-stands, leaves-in-time, leaves-empty, one-decision, decision-stands}
 use Rattle.model.proofs.Consequences.{decision-real, undecided-none, plain-bound, fast-bound}
 use Rattle.model.proofs.Reached.{run-led, refused-led, point, proposed-there, stays-decided, rows-exclude, rows-agree, row-proposed}
-use Rattle.model.proofs.Reached.{row-undecided, row-decided, row-moves, row-lates, row-plain, row-fast}
+use Rattle.model.proofs.Reached.{row-value, row-undecided, row-decided, row-moves, row-lates, row-plain, row-fast}
 use Rattle.model.proofs.Points.{cut-anywhere, cut-before}
 
 -- AT EVERY POINT of a run: s is the state after the first k records, all of them accepted
@@ -132,6 +133,11 @@ module _ (most : ℕ) (trace old : List ℕ) (bytes : Bytes trace) (accepted : r
   -- Validity: it is the start byte of a row with moves.
   pub report-validity : Decision trace → (j : ℕ) → j < byte 3 trace → shown most trace old j 1 ≢ 0 → ShownProposed most trace old j
   report-validity = row-proposed most trace old bytes accepted
+
+  -- It is the decided value of the last state, crashed or not: 0 for who has not decided (`undecided`).
+  pub report-value : Decision trace → (j : ℕ) → j < byte 3 trace → {s : State} → runOf most trace (length old) ≡ going s
+      → shown most trace old j 1 ≡ rowAt s j .local .decided
+  report-value = row-value most trace old bytes accepted
 
   -- It is 0 for a process that has not decided, at a place other than 8 and 9, and not 0 for one at 8.
   pub report-undecided : Decision trace → (j : ℕ) → j < byte 3 trace → shown most trace old j 0 ≢ 8 → shown most trace old j 0 ≢ 9

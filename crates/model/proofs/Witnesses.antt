@@ -102,13 +102,15 @@ pub record Witnessed : Type 0 where
   -- a row that decided and crashed, beside one that decided later; and one that has not decided: P3
   pub report-crashed : Accepted crashesDecided × Decision crashesDecided × (number crashesDecided 0 0 ≡ 9) × (number crashesDecided 0 1 ≡ 1)
       × (number crashesDecided 1 1 ≡ 1)
+  pub report-undecided-crashed : Accepted crashesWaiting × Decision crashesWaiting × (number crashesWaiting 0 0 ≡ 9) × (number crashesWaiting 0 1 ≡ 0)
   pub report-undecided : Accepted p3 × Decision p3 × (number p3 0 0 ≡ 1) × (number p3 0 1 ≡ 0)
   -- the counts of all records: P6's late write; the moves of one that crashed
   pub report-counts : (records (restOf p6) ≡ 10) × (number p6 1 2 ≡ 5) × (movesIn p6 1 10 ≡ 5) × (number p6 1 3 ≡ 1) × (latesIn mostProcesses p6 1 10 ≡ 1)
   pub report-crash-no-move : Accepted crashesWaiting × (records (restOf crashesWaiting) ≡ 5) × (number crashesWaiting 0 2 ≡ 4)
       × (movesIn crashesWaiting 0 5 ≡ 4)
-  -- a row at its bound
+  -- a row at its bound, of kind 2 and of kind 3
   pub report-bound : Accepted lateOnce × (number lateOnce 0 2 ≡ 7) × (number lateOnce 0 3 ≡ 1) × (number lateOnce 0 0 ≡ 8)
+  pub report-fast-bound : Accepted p11 × (byte 2 p11 ≡ 3) × (byte 4 p11 ≡ 2) × (number p11 0 2 ≡ 7) × (number p11 0 3 ≡ 0) × (number p11 0 0 ≡ 8)
 
 pub witnesses : Witnessed
 unfolding afterRead afterWrite badSize badStart setupRefusal stepRefusal
@@ -139,8 +141,10 @@ witnesses =
         record { who = 0; among = omega arith; proposed = refl; moved = omega arith },
       );
       report-crashed = ((all-bytes crashesDecided tt, refl), (omega arith, omega arith), refl, refl, refl);
+      report-undecided-crashed = ((all-bytes crashesWaiting tt, refl), (omega arith, omega arith), refl, refl);
       report-undecided = ((all-bytes p3 tt, refl), (omega arith, omega arith), refl, refl);
       report-counts = (refl, refl, refl, refl, refl);
       report-crash-no-move = ((all-bytes crashesWaiting tt, refl), refl, refl, refl);
       report-bound = ((all-bytes lateOnce tt, refl), refl, refl, refl);
+      report-fast-bound = ((all-bytes p11 tt, refl), refl, refl, refl, refl, refl);
     }

@@ -1,10 +1,12 @@
 -- `ghindulza::ghindulza_bank_fresh` meets its contract: the parts of the fresh bank. Assumes nothing.
 use borrow.Author.Needs.{needs}
+use Rattle.bank.specs.Registers.{freshBank}
 use Rattle.ghindulza.proofs.ghindulza_bank_fresh.Statement.{statement}
 use Rattle.ghindulza.proofs.ghindulza_bank_fresh.Tie as tie
 
 returns : tie.Need-returns
-returns c = search needs
+unfolding freshBank
+returns c = rw (c .fresh .ensures)
 
 pub ghindulza-bank-fresh-spec : {M : Type 1} → statement M
 ghindulza-bank-fresh-spec = tie.close (tie.spec (λ c κs. search needs) returns)

@@ -12,7 +12,7 @@ returns c = rw (sym (c .before .is-crashed .ensures) ∙ c .if1 .taken)
 returns-2 : tie.Need-returns-2
 returns-2 c =
     let alive = c .before .before in
-    rw (sym (alive .before .is-crashed .ensures) ∙ alive .if1 .left) (c .shown .ensures ∙ ap shownOf (c .before .place .ensures))
+    rw (sym (alive .before .is-crashed .ensures) ∙ alive .if1 .left) (c .shown-of .ensures ∙ ap shownOf (c .before .place .ensures))
 
 pub shown-place-spec : {M : Type 1} → statement M
 shown-place-spec =

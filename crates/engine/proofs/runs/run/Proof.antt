@@ -39,7 +39,7 @@ returns-2 : tie.Need-returns-2
 returns-2 c =
     let a = c .before .before .before in
     let r = read a in
-    narrow (trace r) _ (r .read-setup .ensures) (a .if1 .left) (report r) (c .if2 .taken)
+    narrow (trace r) _ (r .read-setup .ensures) (a .if1 .left) (report r) (omega arith)
 
 sub-rest : tie.Need-sub-rest
 sub-rest c = let a = accepted c in let r = read a in begins-inside (trace r) _ (r .read-setup .ensures) (a .if1 .left)
@@ -52,7 +52,7 @@ returns-3 c =
     let w = c .before .before in
     let a = accepted w in
     let r = read a in
-    too-long (trace r) _ (r .read-setup .ensures) (a .if1 .left) (report r) (w .if2 .left) (c .if3 .taken)
+    too-long (trace r) _ (r .read-setup .ensures) (a .if1 .left) (report r) (omega (arith, w .if2 .left)) (omega (arith, c .if3 .taken))
 
 run-steps-requires : tie.Need-run-steps-requires
 run-steps-requires c κs =
@@ -63,7 +63,7 @@ run-steps-requires c κs =
     let reads = r .read-setup .ensures in
     let shapes = s .shape-of .ensures in (
       sound (trace r) _ reads (a .if1 .left) _ shapes (λ j. omega (arith, r .before .before .shared-slice-known .given j)),
-      (starts (trace r) _ reads (a .if1 .left) _ shapes, (short s .if3 .left, lined (trace r) _ reads (a .if1 .left) _ shapes (report r) (w .if2 .left))),
+      (starts (trace r) _ reads (a .if1 .left) _ shapes, (short s .if3 .left, lined (trace r) _ reads (a .if1 .left) _ shapes (report r) (omega (arith, w .if2 .left)))),
     )
 
 returns-4 : tie.Need-returns-4
@@ -73,7 +73,8 @@ returns-4 c =
     let a = accepted w in
     let r = read a in
     c .before .before .run-steps .ensures
-    ∙ goes-on (trace r) _ (r .read-setup .ensures) (a .if1 .left) _ (s .shape-of .ensures) (report r) (w .if2 .left) (short s .if3 .left)
+    ∙ goes-on (trace r) _ (r .read-setup .ensures) (a .if1 .left) _ (s .shape-of .ensures) (report r) (omega (arith, w .if2 .left))
+    (omega (arith, short s .if3 .left))
 
 pub run-spec : {M : Type 1} → statement M
 run-spec =
