@@ -9,7 +9,7 @@ use native.Mathlib.Omega.{arith}
 use borrow.Author.Tests.{ltb-false, leb-false, eqb-true, le-ltb, lt-leb, eq-eqb, not-false}
 use lib.ListN.{length, getD, drop, replicate, length-append, length-take, length-drop, length-replicate, List·getD-append}
 use lib.Seq.{getD-take, getD-drop, getD-append-add}
-use lib.Dec.{ltb, leb}
+use lib.Dec.{ltb}
 use Rattle.terms.specs.Limits.{mostSlots}
 use Rattle.terms.specs.Little.{AllBytes}
 use Rattle.terms.specs.Refusal.{anyFrom}
@@ -17,7 +17,7 @@ use Rattle.terms.proofs.RefusalLaws.{if-refused, then-both, passed, refuse-fals
 use Rattle.kinds.specs.declared.Kind.{Kind}
 use Rattle.kinds.specs.Kinds.{lastKind, kindOf}
 use Rattle.records.specs.Record.{byte}
-use Rattle.setups.specs.Setup.{setupMark, outOfLimits, badSize, beyond, badStart, firstStart, anyBadStart, setupLimits, headRefusal, startBytes, places}
+use Rattle.setups.specs.Setup.{setupMark, outOfLimits, badSize, badStart, proposes, noStart, anyBadStart, setupLimits, headRefusal, startBytes, places}
 use Rattle.setups.specs.Setup.{setupFields, noSetup, setupRefusal, setupRead, setupRest, restStart, setupWriteRefusal}
 use Rattle.setups.specs.declared.SetupRead.{SetupRead}
 use Rattle.records.proofs.RecordLaws.{marked-said, byte-small, none-bad, all-good}
@@ -42,48 +42,33 @@ StartSaid Kind.Lock size x = x < size
 StartSaid Kind.Plain size x = (1 ≤ x) × (x ≤ size)
 StartSaid Kind.Fast size x = (1 ≤ x) × (x ≤ size)
 
-not-beyond : (first count x : ℕ) → beyond first count x ≡ false → (first ≤ x) × (x < first + count)
-not-beyond first count x h =
-    let both = both-false (ltb x first) (leb count (x - first)) h in
-    let low : first ≤ x = ltb-false x first (both .0) in
-    let high : x - first < count = leb-false count (x - first) (both .1) in
-    (low, omega arith)
-
-within : (first count x : ℕ) → first ≤ x → x < first + count → beyond first count x ≡ false
-within first count x low high = let short : x - first < count = omega arith in simp (le-ltb x first low, lt-leb count (x - first) short)
-
 module _ (n size spare j x : ℕ) where
   pub start-said : (κ : Kind) → badStart κ n size spare j x ≡ false → StartSaid κ size x
   unfolding badStart
-  start-said Kind.Lock h = omega (arith, not-beyond 0 size x h .1)
-  start-said Kind.Plain h = let r = not-beyond 1 size x h in (r .0, omega arith)
-  start-said Kind.Fast h = let r = not-beyond 1 size x h in (r .0, omega arith)
+  start-said Kind.Lock h = omega (arith, leb-false size x h)
+  start-said Kind.Plain h = not-outside 1 size x h
+  start-said Kind.Fast h = not-outside 1 size x h
 
   pub said-start : (κ : Kind) → StartSaid κ size x → badStart κ n size spare j x ≡ false
   unfolding badStart
-  said-start Kind.Lock h = within 0 size x (omega arith) (omega arith)
-  said-start Kind.Plain h = within 1 size x (h .0) (omega arith)
-  said-start Kind.Fast h = within 1 size x (h .0) (omega arith)
+  said-start Kind.Lock h = lt-leb _ _ h
+  said-start Kind.Plain h = inside 1 size x (h .0) (h .1)
+  said-start Kind.Fast h = inside 1 size x (h .0) (h .1)
 
-  start-rule : (κ : Kind) → beyond (firstStart κ) size x ≡ badStart κ n size spare j x
+  start-rule : (κ : Kind) → noStart (proposes κ) size x ≡ badStart κ n size spare j x
   unfolding badStart
   start-rule Kind.Lock = refl
   start-rule Kind.Plain = refl
   start-rule Kind.Fast = refl
 
--- as the code asks of a list of start bytes: some is none of ℓ or b numbers from the kind's first on
-abbrev pub anyBeyond : ℕ → ℕ → ℕ → List ℕ → Bool
-anyBeyond first count i s = anyFrom i (λ j x. beyond first count x) s
+-- as the code asks of a list of start bytes
+abbrev pub anyNoStart : Bool → ℕ → ℕ → List ℕ → Bool
+anyNoStart proposal size i s = anyFrom i (λ j x. noStart proposal size x) s
 
 module _ (κ : Kind) (n size spare : ℕ) where
-  pub starts-rule : (i : ℕ) (s : List ℕ) → anyBeyond (firstStart κ) size i s ≡ anyFrom i (badStart κ n size spare) s
+  pub starts-rule : (i : ℕ) (s : List ℕ) → anyNoStart (proposes κ) size i s ≡ anyFrom i (badStart κ n size spare) s
   starts-rule i [] = refl
   starts-rule i (x ∷ xs) = rw (start-rule n size spare i x κ, starts-rule (suc i) xs)
-
-pub first-start-low : (κ : Kind) → firstStart κ ≤ 1
-first-start-low Kind.Lock = omega arith
-first-start-low Kind.Plain = omega arith
-first-start-low Kind.Fast = omega arith
 
 -- LIMITS
 

@@ -1,7 +1,7 @@
 -- The setup record of a trace (01, "The trace"), and what is refused of it, in 01's order. `most` is the most processes.
-use mathlib.Core.Bool.{Bool, not, _||_}
+use mathlib.Core.Bool.{Bool, true, false, not, cond, _||_}
 use mathlib.Core.List.{List, [], _∷_, _++_}
-use Prim.Native.Nat.{ℕ, _+_, _-_}
+use Prim.Native.Nat.{ℕ, _+_}
 use lib.ListN.{length, take, drop, replicate}
 use lib.Dec.{leb, ltb, eqb}
 use Rattle.terms.specs.Limits.{mostSlots}
@@ -30,21 +30,26 @@ badSize Kind.Lock n size spare = outOfLimits size spare
 badSize Kind.Plain n size spare = outOfLimits size spare
 badSize Kind.Fast n size spare = outOfLimits size spare
 
--- x is not one of `count` numbers from `first` on
-abbrev pub beyond : ℕ → ℕ → ℕ → Bool
-beyond first count x = ltb x first || leb count (x - first)
+-- a slot is 0 to ℓ - 1, a proposal 1 to b
+abbrev pub noSlot : ℕ → ℕ → Bool
+noSlot size x = leb size x
 
--- c is one of ℓ slots from 0 on, a proposal one of b values from 1 on
+abbrev pub noProposal : ℕ → ℕ → Bool
+noProposal size x = outside 1 size x
+
 unfoldable pub badStart : Kind → ℕ → ℕ → ℕ → ℕ → ℕ → Bool
-badStart Kind.Lock n size spare j x = beyond 0 size x
-badStart Kind.Plain n size spare j x = beyond 1 size x
-badStart Kind.Fast n size spare j x = beyond 1 size x
+badStart Kind.Lock n size spare j x = noSlot size x
+badStart Kind.Plain n size spare j x = noProposal size x
+badStart Kind.Fast n size spare j x = noProposal size x
 
--- the least of a kind's start bytes
-abbrev pub firstStart : Kind → ℕ
-firstStart Kind.Lock = 0
-firstStart Kind.Plain = 1
-firstStart Kind.Fast = 1
+-- whether a kind's start bytes are proposals: the code asks once for all of them
+abbrev pub proposes : Kind → Bool
+proposes Kind.Lock = false
+proposes Kind.Plain = true
+proposes Kind.Fast = true
+
+abbrev pub noStart : Bool → ℕ → ℕ → Bool
+noStart proposal size x = cond proposal (noProposal size x) (noSlot size x)
 
 abbrev pub anyBadStart : Kind → ℕ → ℕ → List ℕ → Bool
 anyBadStart kind size spare starts = anyFrom 0 (badStart kind (length starts) size spare) starts

@@ -5,7 +5,7 @@ ghost use Prim.Native.Nat.{_+_, _≤_};
 ghost use lib.ListN.{length};
 ghost use denote.Ref.{ptr};
 ghost use Rattle.terms.specs.Limits.{mostProcesses};
-ghost use Rattle.setups.specs.Setup.{outOfLimits, badSize, beyond, firstStart, anyBadStart, setupLimits, headRefusal};
+ghost use Rattle.setups.specs.Setup.{outOfLimits, badSize, proposes, noStart, anyBadStart, setupLimits, headRefusal};
 ghost use Rattle.setups.specs.Setup.{startsOf, noSetup, setupRead, setupRest, restStart, setupWriteRefusal, WroteSetup};
 use kinds::Kind;
 use records::Written;
@@ -68,22 +68,23 @@ fn is_bad_size(kind: Kind, n: usize, size: u32, spare: u32) -> bool
     }
 }
 
-// Whether x is not one of `count` numbers from `first` on: one test, since below `first` the difference goes round to a large one.
-fn is_beyond(first: u8, count: u8, x: u8) -> bool
-    requires { ⌜ first + count ≤ 256 ⌝ }
-    ensures { λ r. ⌜ r ≡ beyond first count x ⌝ }
-{
-    count <= std::num::wrapping_sub_u8(x, first)
-}
-
-fn first_start(kind: Kind) -> u8
-    ensures { λ r. ⌜ r ≡ firstStart kind ⌝ }
+fn is_proposing(kind: Kind) -> bool
+    ensures { λ r. ⌜ r ≡ proposes kind ⌝ }
 {
     match kind {
-        Kind::Lock => 0,
-        Kind::Plain => 1,
-        Kind::Fast => 1,
+        Kind::Lock => false,
+        Kind::Plain => true,
+        Kind::Fast => true,
     }
+}
+
+fn is_no_start(proposal: bool, size: u8, x: u8) -> bool
+    ensures { λ r. ⌜ r ≡ noStart proposal size x ⌝ }
+{
+    if proposal {
+        return x < 1 || size < x;
+    }
+    size <= x
 }
 
 fn either(a: bool, b: bool) -> bool
@@ -96,11 +97,11 @@ fn either(a: bool, b: bool) -> bool
 fn any_bad_start(kind: Kind, size: u8, spare: u8, s: &[u8]) -> bool
     ensures { λ r. ⌜ r ≡ anyBadStart kind size spare (now (s .entry)) ⌝ }
 {
-    let first = first_start(kind);
+    let proposal = is_proposing(kind);
     let mut bad = false;
     let mut i = 0;
     while i < s.len() {
-        bad = either(bad, is_beyond(first, size, s[i]));
+        bad = either(bad, is_no_start(proposal, size, s[i]));
         i += 1;
     }
     bad
