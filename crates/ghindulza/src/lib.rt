@@ -1,7 +1,6 @@
 // The C surface of the bench: numbers and slices only. include/ghindulza.h declares it for C.
 // Each function takes the call apart, hands it to the layer below and puts the answer out; it returns the number of the refusal, 0 for accepted.
 use answers::WriteAnswer;
-use bank::Bank;
 use bank::calls;
 use engine::runs;
 use registers::PAIRS;
@@ -10,6 +9,7 @@ use setups::PLACES;
 use steps::Step;
 use terms::ProcessNumber;
 use terms::SlotNumber;
+use terms::Wait;
 ghost use mathlib.Core.Path.{_≡_};
 ghost use Rattle.terms.specs.Limits.{mostProcesses};
 ghost use Rattle.terms.specs.Numbers.{processOf, slotOf};
@@ -126,6 +126,7 @@ fn answer_code(answer: WriteAnswer) -> u32
     }
 }
 
+// In place: a bank by value would be copied.
 #[no_mangle]
 pub extern "C" fn ghindulza_bank_fresh(
     values: &mut [u32; REGISTERS],
@@ -134,12 +135,9 @@ pub extern "C" fn ghindulza_bank_fresh(
 )
     ensures { λ r. ⌜ bankOf (now (values .exit)) (now (deadlines .exit)) (now (last .exit)) ≡ freshBank ⌝ }
 {
-    let fresh = Bank::fresh();
-    let empty = fresh.values;
-    let unbound = fresh.deadlines;
-    *values = empty;
-    *deadlines = unbound;
-    *last = fresh.last;
+    *values = [0; REGISTERS];
+    *deadlines = [Wait::UNLIMITED; PAIRS];
+    *last = 0;
 }
 
 #[no_mangle]
