@@ -1,6 +1,6 @@
 // What a bank answers a read and a write.
 ghost use Rattle.std.specs.Prelude.{◌≡◌};
-ghost use Rattle.answers.specs.Answers.{readNumber, readValue, writeNumber, isDone, isLate};
+ghost use Rattle.answers.specs.Answers.{read_number, read_value, write_number, is_done, is_late};
 
 #[derive(Drop)]
 pub enum ReadAnswer {
@@ -18,7 +18,7 @@ pub enum WriteAnswer {
 impl ReadAnswer {
     // The number of the refusal, 0 for none.
     pub fn number(self) -> u32
-        ensures { result ≡ readNumber self }
+        ensures { result ≡ read_number self }
     {
         match self {
             ReadAnswer::Value(_) => 0,
@@ -28,7 +28,7 @@ impl ReadAnswer {
 
     // The value read, 0 where the read was refused.
     pub fn value(self) -> u32
-        ensures { result ≡ readValue self }
+        ensures { result ≡ read_value self }
     {
         match self {
             ReadAnswer::Value(v) => v,
@@ -40,7 +40,7 @@ impl ReadAnswer {
 impl WriteAnswer {
     // The number of the refusal, 0 for none.
     pub fn number(self) -> u32
-        ensures { result ≡ writeNumber self }
+        ensures { result ≡ write_number self }
     {
         match self {
             WriteAnswer::Done => 0,
@@ -50,7 +50,7 @@ impl WriteAnswer {
     }
 
     pub fn is_done(self) -> bool
-        ensures { result ≡ isDone self }
+        ensures { result ≡ is_done self }
     {
         match self {
             WriteAnswer::Done => true,
@@ -60,7 +60,7 @@ impl WriteAnswer {
     }
 
     pub fn is_late(self) -> bool
-        ensures { result ≡ isLate self }
+        ensures { result ≡ is_late self }
     {
         match self {
             WriteAnswer::Done => false,

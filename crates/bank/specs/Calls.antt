@@ -2,26 +2,26 @@
 use Rattle.std.specs.Prelude.{ℕ, Bool, cond}
 use Rattle.terms.specs.declared.ProcessNumber.{ProcessNumber}
 use Rattle.terms.specs.declared.SlotNumber.{SlotNumber}
-use Rattle.terms.specs.Refusal.{ifAccepted}
+use Rattle.terms.specs.Refusal.{if_accepted}
 use Rattle.answers.specs.declared.ReadAnswer.{ReadAnswer}
 use Rattle.answers.specs.declared.WriteAnswer.{WriteAnswer}
-use Rattle.refusals.specs.Refusals.{callRefusal, readRefusal}
+use Rattle.refusals.specs.Refusals.{call_refusal, read_refusal}
 use Rattle.bank.specs.declared.Bank.{Bank}
 use Rattle.bank.specs.declared.ReadResult.{ReadResult}
 use Rattle.bank.specs.declared.WriteResult.{WriteResult}
-use Rattle.bank.specs.Registers.{value_at, lateAt, afterRead, afterWrite}
+use Rattle.bank.specs.Registers.{value_at, late_at, after_read, after_write}
 
 unfoldable pub read_of : Bank → ProcessNumber → SlotNumber → ℕ → ℕ → ReadResult
 read_of b i c t d =
-    ifAccepted (readRefusal b.last i c t d)
-    (record { bank = afterRead b i c t d; answer = ReadAnswer.Value (value_at b c) })
-    (record { bank = b; answer = ReadAnswer.Refused (readRefusal b.last i c t d) })
+    if_accepted (read_refusal b.last i c t d)
+    (record { bank = after_read b i c t d; answer = ReadAnswer.Value (value_at b c) })
+    (record { bank = b; answer = ReadAnswer.Refused (read_refusal b.last i c t d) })
 
-abbrev pub doneOrLate : Bool → WriteAnswer
-doneOrLate late = cond late WriteAnswer.Late WriteAnswer.Done
+abbrev pub done_or_late : Bool → WriteAnswer
+done_or_late late = cond late WriteAnswer.Late WriteAnswer.Done
 
-unfoldable pub writeOf : Bank → ProcessNumber → SlotNumber → ℕ → ℕ → WriteResult
-writeOf b i c t v =
-    ifAccepted (callRefusal b.last i c t)
-    (record { bank = afterWrite b i c t v; answer = doneOrLate (lateAt b i c t) })
-    (record { bank = b; answer = WriteAnswer.Refused (callRefusal b.last i c t) })
+unfoldable pub write_of : Bank → ProcessNumber → SlotNumber → ℕ → ℕ → WriteResult
+write_of b i c t v =
+    if_accepted (call_refusal b.last i c t)
+    (record { bank = after_write b i c t v; answer = done_or_late (late_at b i c t) })
+    (record { bank = b; answer = WriteAnswer.Refused (call_refusal b.last i c t) })

@@ -1,7 +1,7 @@
 // A read and a write as a caller meets them, over a bank whose parts are lent: refused in the order of document 01, or granted.
 ghost use Rattle.std.specs.Prelude.{◌≡◌};
-ghost use Rattle.bank.specs.Registers.{bankOf};
-ghost use Rattle.bank.specs.Calls.{read_of, writeOf};
+ghost use Rattle.bank.specs.Registers.{bank_of};
+ghost use Rattle.bank.specs.Calls.{read_of, write_of};
 
 use answers::{ReadAnswer, WriteAnswer};
 use registers::{PAIRS, REGISTERS};
@@ -16,8 +16,8 @@ pub fn read_in(
     t: u32,
     d: u32,
 ) -> ReadAnswer
-    ensures { record { bank = bankOf values.now deadlines.new last.new; answer = result }
-        ≡ read_of (bankOf values.now deadlines.old last.old) i c t d }
+    ensures { record { bank = bank_of values.now deadlines.new last.new; answer = result }
+        ≡ read_of (bank_of values.now deadlines.old last.old) i c t d }
 {
     let refusal = refusals::read_refusal(*last, i, c, t, d);
     if refusal != 0 {
@@ -36,8 +36,8 @@ pub fn write_in(
     t: u32,
     v: u32,
 ) -> WriteAnswer
-    ensures { record { bank = bankOf values.new deadlines.new last.new; answer = result }
-        ≡ writeOf (bankOf values.old deadlines.old last.old) i c t v }
+    ensures { record { bank = bank_of values.new deadlines.new last.new; answer = result }
+        ≡ write_of (bank_of values.old deadlines.old last.old) i c t v }
 {
     let refusal = refusals::call_refusal(*last, i, c, t);
     if refusal != 0 {

@@ -3,8 +3,8 @@
 pub mod calls;
 
 ghost use Rattle.std.specs.Prelude.{◌≡◌};
-ghost use Rattle.bank.specs.Registers.{freshBank};
-ghost use Rattle.bank.specs.Calls.{read_of, writeOf};
+ghost use Rattle.bank.specs.Registers.{fresh_bank};
+ghost use Rattle.bank.specs.Calls.{read_of, write_of};
 
 use answers::{ReadAnswer, WriteAnswer};
 use registers::{PAIRS, REGISTERS};
@@ -33,7 +33,7 @@ pub struct WriteResult {
 impl Bank {
     // All values empty, every pair unbound, last tick 0.
     pub fn fresh() -> Self
-        ensures { result ≡ freshBank }
+        ensures { result ≡ fresh_bank }
     {
         Bank {
             values: [0; REGISTERS],
@@ -62,7 +62,7 @@ impl Bank {
 
     // Up to the deadline of i and c: v is stored. Late: the value stays. Either way the deadline becomes unlimited.
     pub fn write(self, i: ProcessNumber, c: SlotNumber, t: u32, v: u32) -> WriteResult
-        ensures { result ≡ writeOf self i c t v }
+        ensures { result ≡ write_of self i c t v }
     {
         let mut values = self.values;
         let mut deadlines = self.deadlines;

@@ -3,10 +3,10 @@
 use mathlib.Core.Path.{◌≡◌, sym, ◌∙◌}
 use Rattle.terms.proofs.Settles.{Settles}
 use Rattle.model.specs.Report.{Ran}
-use Rattle.engine.proofs.runs.run.Kinds as run-kinds
+use Rattle.engine.proofs.runs.run.Kinds as run_kinds
 use Rattle.engine.proofs.runs.run.Reads as run
 
-pub run-settles : Settles 2 run-kinds.ps run-kinds.r run.Post
-run-settles κs a x y u v p q =
+pub run_settles : Settles 2 run_kinds.ps run_kinds.r run.Post
+run_settles κs a x y u v p q =
     let e : ◌≡◌ {A = Ran} (record { outcome = x; report = u.1.0 }) (record { outcome = y; report = v.1.0 }) = p ∙ sym q in
     ((λ k. (e k).outcome), (λ k. (tt, ((e k).report, tt))))

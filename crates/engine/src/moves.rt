@@ -1,11 +1,11 @@
 // A step in place: by the place of its process one operation of memory, and where the process goes with the answer.
 ghost use Rattle.std.specs.Prelude.{◌≤◌, ◌≡◌};
-ghost use Rattle.terms.specs.Limits.{mostSlots, topTick};
-ghost use Rattle.bank.specs.Registers.{bankOf};
+ghost use Rattle.terms.specs.Limits.{most_slots, top_tick};
+ghost use Rattle.bank.specs.Registers.{bank_of};
 ghost use Rattle.model.specs.Bounds.{Sound, Room};
-ghost use Rattle.model.specs.Memory.{flagAt};
+ghost use Rattle.model.specs.Memory.{flag_at};
 ghost use Rattle.rows.specs.Rows.{row_in, IsRow, Whole};
-ghost use Rattle.engine.specs.Stepped.{Numbered, Due, sharedOf, Moved, Stepped};
+ghost use Rattle.engine.specs.Stepped.{Numbered, Due, shared_of, Moved, Stepped};
 
 use model::{FLAGS, Place, Shape};
 use registers::{PAIRS, REGISTERS};
@@ -16,8 +16,8 @@ use terms::{ProcessNumber, Wait};
 
 // The flag of value v as a number: 1 where it is set.
 fn flag(v: u32, flags: &[bool; FLAGS]) -> u32
-    requires { v ≤ mostSlots }
-    ensures { result ≡ flagAt (sharedOf flags.now) v }
+    requires { v ≤ most_slots }
+    ensures { result ≡ flag_at (shared_of flags.now) v }
 {
     let at = v as usize;
     if flags[at] {
@@ -40,13 +40,13 @@ fn make_move(
 )
     requires sound { Sound shape }
     requires numbered { Numbered i }
-    requires tick_le_top_tick { tick ≤ topTick }
+    requires tick_le_top_tick { tick ≤ top_tick }
     requires row { IsRow j }
     requires whole { Whole rows.old }
     requires room { Room shape (row_in rows.old j) }
     ensures { Moved shape (row_in rows.old j).local.place i tick j rows.old rows.new
-        (bankOf values.old deadlines.old last.old) (bankOf values.new deadlines.new last.new)
-        (sharedOf flags.old) (sharedOf flags.new) }
+        (bank_of values.old deadlines.old last.old) (bank_of values.new deadlines.new last.new)
+        (shared_of flags.old) (shared_of flags.new) }
 {
     let c = rows::slot(j, rows);
     let place = rows::place(j, rows);
@@ -106,8 +106,8 @@ pub fn take_step(
     requires whole { Whole rows.old }
     requires room { Room shape (row_in rows.old j) }
     ensures { Stepped shape step j rows.old rows.new
-        (bankOf values.old deadlines.old last.old) (bankOf values.new deadlines.new last.new)
-        (sharedOf flags.old) (sharedOf flags.new) }
+        (bank_of values.old deadlines.old last.old) (bank_of values.new deadlines.new last.new)
+        (shared_of flags.old) (shared_of flags.new) }
 {
     if step.event != 0 {
         rows::crash(j, rows);

@@ -1,18 +1,18 @@
 // The report: a line of numbers a process.
 ghost use Rattle.std.specs.Prelude.{◌≡◌, ◌+◌, ◌*◌, ◌≤◌, length};
-ghost use Rattle.terms.specs.Limits.{mostProcesses};
+ghost use Rattle.terms.specs.Limits.{most_processes};
 ghost use Rattle.terms.specs.Overlay.{overlay, spliced};
 ghost use Rattle.model.specs.Routine.{routine_of, routine};
-ghost use Rattle.model.specs.Sizes.{lineWidth};
-ghost use Rattle.model.specs.Report.{shownOf, shownPlace, figureOf, line, lines};
-ghost use Rattle.rows.specs.Rows.{row_in, rowsIn, IsRow};
+ghost use Rattle.model.specs.Sizes.{line_width};
+ghost use Rattle.model.specs.Report.{shown_of, shown_place, figure_of, line, lines};
+ghost use Rattle.rows.specs.Rows.{row_in, rows_in, IsRow};
 
 use kinds::Kind;
 use model::{LINE, Place, Shape};
 use rows::NUMBERS;
 
 fn shown_of(place: Place) -> u32
-    ensures { result ≡ shownOf place }
+    ensures { result ≡ shown_of place }
 {
     match place {
         Place::Rest => 0,
@@ -29,7 +29,7 @@ fn shown_of(place: Place) -> u32
 
 fn shown_place(j: usize, rows: &[u32; NUMBERS]) -> u32
     requires { IsRow j }
-    ensures { result ≡ shownPlace (row_in rows.now j) }
+    ensures { result ≡ shown_place (row_in rows.now j) }
 {
     if rows::is_crashed(j, rows) {
         return 9;
@@ -39,7 +39,7 @@ fn shown_place(j: usize, rows: &[u32; NUMBERS]) -> u32
 
 fn figure(kind: Kind, j: usize, rows: &[u32; NUMBERS]) -> u32
     requires { IsRow j }
-    ensures { result ≡ figureOf (routine_of kind) (row_in rows.now j) }
+    ensures { result ≡ figure_of (routine_of kind) (row_in rows.now j) }
 {
     match kind {
         Kind::Lock => rows::slot(j, rows).0,
@@ -51,7 +51,7 @@ fn figure(kind: Kind, j: usize, rows: &[u32; NUMBERS]) -> u32
 // The line of the process with row j, at the report's number `at`.
 pub fn write_line(kind: Kind, j: usize, rows: &[u32; NUMBERS], at: usize, report: &mut [u32])
     requires row { IsRow j }
-    requires line_width_in_bounds { at + lineWidth ≤ length report.old }
+    requires line_width_in_bounds { at + line_width ≤ length report.old }
     ensures { report.new ≡ spliced at (line (routine_of kind) (row_in rows.now j)) report.old }
 {
     report[at] = shown_place(j, rows);
@@ -62,9 +62,9 @@ pub fn write_line(kind: Kind, j: usize, rows: &[u32; NUMBERS], at: usize, report
 
 // The lines of all processes, over the report's first numbers.
 pub fn write_lines(shape: Shape, rows: &[u32; NUMBERS], report: &mut [u32])
-    requires count_le_most_processes { shape.count ≤ mostProcesses }
-    requires count_in_bounds { lineWidth * shape.count ≤ length report.old }
-    ensures { report.new ≡ overlay (lines (routine shape) (rowsIn rows.now) shape.count) report.old }
+    requires count_le_most_processes { shape.count ≤ most_processes }
+    requires count_in_bounds { line_width * shape.count ≤ length report.old }
+    ensures { report.new ≡ overlay (lines (routine shape) (rows_in rows.now) shape.count) report.old }
 {
     let kind = shape.kind;
     let mut j: usize = 0;

@@ -1,12 +1,12 @@
 // The run: a trace's records one after the other, with the state in place; and the entry point.
 ghost use Rattle.std.specs.Prelude.{◌≡◌, ◌*◌, ◌≤◌, length, replicate};
-ghost use Rattle.terms.specs.Limits.{mostProcesses, mostSteps};
+ghost use Rattle.terms.specs.Limits.{most_processes, most_steps};
 ghost use Rattle.model.specs.Bounds.{Sound, Starts};
-ghost use Rattle.model.specs.Sizes.{lineWidth};
-ghost use Rattle.model.specs.Run.{startRows, shape_of};
-ghost use Rattle.model.specs.Report.{ranOf};
-ghost use Rattle.rows.specs.Rows.{rowsWidth, Whole, rowsIn};
-ghost use Rattle.engine.specs.Stepped.{parts, stateIn, Begins, Walked, ranFrom};
+ghost use Rattle.model.specs.Sizes.{line_width};
+ghost use Rattle.model.specs.Run.{start_rows, shape_of};
+ghost use Rattle.model.specs.Report.{ran_of};
+ghost use Rattle.rows.specs.Rows.{rows_width, Whole, rows_in};
+ghost use Rattle.engine.specs.Stepped.{parts, state_in, Begins, Walked, ran_from};
 
 use crate::{moves, report};
 use model::{FLAGS, LINE, Outcome, Shape};
@@ -19,10 +19,10 @@ use terms::{Trace, Wait};
 
 // Every process begins, in rows that are blank.
 fn begin_rows(shape: Shape, starts: [u8; PLACES], rows: &mut [u32; NUMBERS])
-    requires count_le_most_processes { shape.count ≤ mostProcesses }
-    requires rows_value { rows.old ≡ replicate rowsWidth 0 }
+    requires count_le_most_processes { shape.count ≤ most_processes }
+    requires rows_value { rows.old ≡ replicate rows_width 0 }
     ensures whole { Whole rows.new }
-    ensures rows_after { rowsIn rows.new ≡ startRows shape 0 starts }
+    ensures rows_after { rows_in rows.new ≡ start_rows shape 0 starts }
 {
     let kind = shape.kind;
     let mut j: usize = 0;
@@ -44,12 +44,12 @@ fn take_records(
     newest: &mut u32,
 ) -> Outcome
     requires sound { Sound shape }
-    requires count_le_most_processes { shape.count ≤ mostProcesses }
-    requires rest_len_bound { length rest.now ≤ 8 * mostSteps }
+    requires count_le_most_processes { shape.count ≤ most_processes }
+    requires rest_len_bound { length rest.now ≤ 8 * most_steps }
     requires whole { Whole rows.old }
-    requires begins { Begins shape (stateIn (parts rows.old values.old deadlines.old last.old flags.old newest.old)) }
+    requires begins { Begins shape (state_in (parts rows.old values.old deadlines.old last.old flags.old newest.old)) }
     ensures { Walked shape
-        (stateIn (parts rows.old values.old deadlines.old last.old flags.old newest.old))
+        (state_in (parts rows.old values.old deadlines.old last.old flags.old newest.old))
         rest.now result
         (parts rows.new values.new deadlines.new last.new flags.new newest.new) }
 {
@@ -82,9 +82,9 @@ fn take_records(
 fn run_steps(shape: Shape, starts: [u8; PLACES], rest: &[u8], report: &mut [u32]) -> Outcome
     requires sound { Sound shape }
     requires starts { Starts shape starts }
-    requires rest_len_bound { length rest.now ≤ 8 * mostSteps }
-    requires count_in_bounds { lineWidth * shape.count ≤ length report.old }
-    ensures { record { outcome = result; report = report.new } ≡ ranFrom shape starts rest.now report.old }
+    requires rest_len_bound { length rest.now ≤ 8 * most_steps }
+    requires count_in_bounds { line_width * shape.count ≤ length report.old }
+    ensures { record { outcome = result; report = report.new } ≡ ran_from shape starts rest.now report.old }
 {
     let mut rows = [0u32; NUMBERS];
     begin_rows(shape, starts, &mut rows);
@@ -124,7 +124,7 @@ fn shape_of(setup: Setup) -> Shape
 
 // A run of a trace, with its report: 0 and the count of accepted steps, or the number of a refusal and its record.
 pub fn run(trace: &[u8], report: &mut [u32]) -> Outcome
-    ensures { record { outcome = result; report = report.new } ≡ ranOf mostProcesses trace.now report.old }
+    ensures { record { outcome = result; report = report.new } ≡ ran_of most_processes trace.now report.old }
 {
     let read = setups::read_setup(trace);
     let no = read.refusal;

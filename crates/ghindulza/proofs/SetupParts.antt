@@ -5,40 +5,40 @@ use mathlib.Core.List.{List, [], ◌∷◌}
 use Prim.Native.Nat.{ℕ, ◌+◌, ◌-◌, ◌≤◌}
 use lib.ListN.{length, length-drop}
 use borrow.Author.Rules.{rules}
-use Rattle.terms.specs.Limits.{mostProcesses}
-use Rattle.terms.proofs.RefusalLaws.{if-refused}
+use Rattle.terms.specs.Limits.{most_processes}
+use Rattle.terms.proofs.RefusalLaws.{if_refused}
 use Rattle.setups.specs.declared.SetupRead.{SetupRead}
-use Rattle.setups.specs.Setup.{setupRefusal, setupRead, setupRest, restStart}
-use Rattle.setups.proofs.SetupLaws.{setup-said}
-use Rattle.ghindulza.specs.Surface.{setupNumbers, setupOut}
+use Rattle.setups.specs.Setup.{setup_refusal, setup_read, setup_rest, rest_start}
+use Rattle.setups.proofs.SetupLaws.{setup_said}
+use Rattle.ghindulza.specs.Surface.{setup_numbers, setup_out}
 
-module _ (s : List ℕ) (r : SetupRead) (known : r ≡ setupRead mostProcesses s) where
-  asked : r.refusal ≡ setupRefusal mostProcesses s
-  unfolding setupRead
+module _ (s : List ℕ) (r : SetupRead) (known : r ≡ setup_read most_processes s) where
+  asked : r.refusal ≡ setup_refusal most_processes s
+  unfolding setup_read
   asked = ap (λ (x : SetupRead). x.refusal) known
 
   -- refused: an empty rest at the beginning
-  pub setup-refused : (r.refusal ≡ 0 → ⊥)
-      → record { number = r.refusal; fields = setupNumbers r.setup; starts = r.setup.starts; rest = 0 ∷ 0 ∷ [] } ≡ setupOut s
-  unfolding setupRead restStart setupRest
-  setup-refused h = rw known (simp (if-refused (setupRefusal mostProcesses s) (λ z. h (asked ∙ z))))
+  pub setup_refused : (r.refusal ≡ 0 → ⊥)
+      → record { number = r.refusal; fields = setup_numbers r.setup; starts = r.setup.starts; rest = 0 ∷ 0 ∷ [] } ≡ setup_out s
+  unfolding setup_read rest_start setup_rest
+  setup_refused h = rw known (simp (if_refused (setup_refusal most_processes s) (λ z. h (asked ∙ z))))
 
   module _ (h : r.refusal ≡ 0) where
-    accepted : setupRefusal mostProcesses s ≡ 0
+    accepted : setup_refusal most_processes s ≡ 0
     accepted = sym asked ∙ h
 
     -- accepted: the rest begins past the n start bytes, which the trace has
-    pub rest-within : 8 + r.setup.processes ≤ length s
-    unfolding setupRead
-    rest-within = rw (known, accepted) (setup-said mostProcesses s accepted).head.whole
+    pub rest_within : 8 + r.setup.processes ≤ length s
+    unfolding setup_read
+    rest_within = rw (known, accepted) (setup_said most_processes s accepted).head.whole
 
-    pub setup-accepted : record {
+    pub setup_accepted : record {
       number = 0;
-      fields = setupNumbers r.setup;
+      fields = setup_numbers r.setup;
       starts = r.setup.starts;
       rest = (8 + r.setup.processes) ∷ (length s - (8 + r.setup.processes)) ∷ [];
-    } ≡ setupOut s
-    unfolding setupRead restStart setupRest
-    setup-accepted = rw known (simp (accepted, length-drop))
+    } ≡ setup_out s
+    unfolding setup_read rest_start setup_rest
+    setup_accepted = rw known (simp (accepted, length-drop))
 
-pub ruleset setup-parts = (rules, setup-refused, rest-within, setup-accepted)
+pub ruleset setup_parts = (rules, setup_refused, rest_within, setup_accepted)

@@ -1,14 +1,14 @@
 // The C surface of the bench: numbers and slices only. include/ghindulza.h declares it for C.
 // Each function takes the call apart, hands it to the layer below and puts the answer out; it returns the number of the refusal, 0 for accepted.
 ghost use Rattle.std.specs.Prelude.{◌≡◌};
-ghost use Rattle.terms.specs.Limits.{mostProcesses};
-ghost use Rattle.terms.specs.Numbers.{processOf, slot_of};
-ghost use Rattle.bank.specs.Registers.{bankOf, freshBank};
-ghost use Rattle.bank.specs.Calls.{read_of, writeOf};
+ghost use Rattle.terms.specs.Limits.{most_processes};
+ghost use Rattle.terms.specs.Numbers.{process_of, slot_of};
+ghost use Rattle.bank.specs.Registers.{bank_of, fresh_bank};
+ghost use Rattle.bank.specs.Calls.{read_of, write_of};
 ghost use Rattle.setups.specs.Setup.{WroteSetup};
-ghost use Rattle.steps.specs.Step.{stepRead, WroteStep};
-ghost use Rattle.model.specs.Report.{ranOf};
-ghost use Rattle.ghindulza.specs.Surface.{ranOut, setupOut, stepOut, step_of, answerCode, readOut, writeOut};
+ghost use Rattle.steps.specs.Step.{step_read, WroteStep};
+ghost use Rattle.model.specs.Report.{ran_of};
+ghost use Rattle.ghindulza.specs.Surface.{ran_out, setup_out, step_out, step_of, answer_code, read_out, write_out};
 
 use answers::WriteAnswer;
 use bank::calls;
@@ -23,7 +23,7 @@ use terms::{ProcessNumber, SlotNumber, Wait};
 // `record`: the count of accepted steps, or the record of the refusal.
 #[unsafe(no_mangle)]
 pub extern "C" fn ghindulza_run(trace: &[u8], report: &mut [u32], record: &mut u32) -> u32
-    ensures { ranOut result «record».new report.new ≡ ranOf mostProcesses trace.now report.old }
+    ensures { ran_out result «record».new report.new ≡ ran_of most_processes trace.now report.old }
 {
     let outcome = runs::run(trace, report);
     *record = outcome.at;
@@ -41,7 +41,7 @@ pub extern "C" fn ghindulza_read_setup(
     rest: &mut [u64; 2],
 ) -> u32
     ensures { record { number = result; fields = fields.new; starts = starts.new; rest = rest.new }
-        ≡ setupOut bytes.now }
+        ≡ setup_out bytes.now }
 {
     let read = setups::read_setup(bytes);
     let setup = read.setup;
@@ -65,7 +65,7 @@ pub extern "C" fn ghindulza_read_setup(
 
 #[unsafe(no_mangle)]
 pub extern "C" fn ghindulza_read_step(bytes: &[u8], fields: &mut [u32; 3]) -> u32
-    ensures { record { number = result; fields = fields.new } ≡ stepOut (stepRead mostProcesses bytes.now) }
+    ensures { record { number = result; fields = fields.new } ≡ step_out (step_read most_processes bytes.now) }
 {
     let answer = steps::read_step(bytes);
     let step = answer.step;
@@ -82,7 +82,7 @@ pub extern "C" fn ghindulza_write_setup(
     starts: &[u8],
     length: &mut u64,
 ) -> u32
-    ensures { WroteSetup mostProcesses kind size delta starts.now buffer.old
+    ensures { WroteSetup most_processes kind size delta starts.now buffer.old
         (record { refusal = result; len = length.new }) buffer.new }
 {
     let written = setups::write_setup(kind, size, delta, starts, buffer);
@@ -98,7 +98,7 @@ pub extern "C" fn ghindulza_write_step(
     tick: u32,
     length: &mut u64,
 ) -> u32
-    ensures { WroteStep mostProcesses (step_of process event tick) buffer.old
+    ensures { WroteStep most_processes (step_of process event tick) buffer.old
         (record { refusal = result; len = length.new }) buffer.new }
 {
     let step = Step {
@@ -115,7 +115,7 @@ pub extern "C" fn ghindulza_write_step(
 
 // 1 for done, 2 for late, 0 for neither.
 fn answer_code(answer: WriteAnswer) -> u32
-    ensures { result ≡ answerCode answer }
+    ensures { result ≡ answer_code answer }
 {
     match answer {
         WriteAnswer::Done => 1,
@@ -131,7 +131,7 @@ pub extern "C" fn ghindulza_bank_fresh(
     deadlines: &mut [u32; PAIRS],
     last: &mut u32,
 )
-    ensures { bankOf values.new deadlines.new last.new ≡ freshBank }
+    ensures { bank_of values.new deadlines.new last.new ≡ fresh_bank }
 {
     *values = [0; REGISTERS];
     *deadlines = [Wait::UNLIMITED; PAIRS];
@@ -149,8 +149,8 @@ pub extern "C" fn ghindulza_bank_read(
     wait: u32,
     value: &mut u32,
 ) -> u32
-    ensures { record { number = result; bank = bankOf values.now deadlines.new last.new; answer = value.new }
-        ≡ readOut (read_of (bankOf values.now deadlines.old last.old) (processOf process) (slot_of reg) tick wait) }
+    ensures { record { number = result; bank = bank_of values.now deadlines.new last.new; answer = value.new }
+        ≡ read_out (read_of (bank_of values.now deadlines.old last.old) (process_of process) (slot_of reg) tick wait) }
 {
     let found = calls::read_in(
         values,
@@ -176,8 +176,8 @@ pub extern "C" fn ghindulza_bank_write(
     value: u32,
     answer: &mut u32,
 ) -> u32
-    ensures { record { number = result; bank = bankOf values.new deadlines.new last.new; answer = answer.new }
-        ≡ writeOut (writeOf (bankOf values.old deadlines.old last.old) (processOf process) (slot_of reg) tick value) }
+    ensures { record { number = result; bank = bank_of values.new deadlines.new last.new; answer = answer.new }
+        ≡ write_out (write_of (bank_of values.old deadlines.old last.old) (process_of process) (slot_of reg) tick value) }
 {
     let found = calls::write_in(
         values,

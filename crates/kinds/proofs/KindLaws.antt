@@ -4,23 +4,23 @@ use mathlib.Core.Path.{◌≡◌, refl}
 use mathlib.Core.Bool.{false}
 use Prim.Native.Nat.{ℕ, zero, suc}
 use native.Mathlib.Omega.{arith}
-use Rattle.terms.proofs.RefusalLaws.{not-outside}
+use Rattle.terms.proofs.RefusalLaws.{not_outside}
 use Rattle.kinds.specs.declared.Kind.{Kind}
-use Rattle.kinds.specs.Kinds.{lastKind, badKind, kind_of}
+use Rattle.kinds.specs.Kinds.{last_kind, bad_kind, kind_of}
 
 abbrev pub number_of : Kind → ℕ
 number_of Kind.Lock = 1
 number_of Kind.Plain = 2
 number_of Kind.Fast = 3
 
-pub kind-of-number : (κ : Kind) → kind_of (number_of κ) ≡ κ
-kind-of-number Kind.Lock = refl
-kind-of-number Kind.Plain = refl
-kind-of-number Kind.Fast = refl
+pub kind_of_number : (κ : Kind) → kind_of (number_of κ) ≡ κ
+kind_of_number Kind.Lock = refl
+kind_of_number Kind.Plain = refl
+kind_of_number Kind.Fast = refl
 
-pub number-of-kind : (k : ℕ) → badKind lastKind k ≡ false → number_of (kind_of k) ≡ k
-number-of-kind zero h = absurd (omega (arith, (not-outside 1 lastKind 0 h).0))
-number-of-kind (suc zero) h = refl
-number-of-kind (suc (suc zero)) h = refl
-number-of-kind (suc (suc (suc zero))) h = refl
-number-of-kind (suc (suc (suc (suc k)))) h = absurd (omega (arith, (not-outside 1 lastKind (suc (suc (suc (suc k)))) h).1))
+pub number_of_kind : (k : ℕ) → bad_kind last_kind k ≡ false → number_of (kind_of k) ≡ k
+number_of_kind zero h = absurd (omega (arith, (not_outside 1 last_kind 0 h).0))
+number_of_kind (suc zero) h = refl
+number_of_kind (suc (suc zero)) h = refl
+number_of_kind (suc (suc (suc zero))) h = refl
+number_of_kind (suc (suc (suc (suc k)))) h = absurd (omega (arith, (not_outside 1 last_kind (suc (suc (suc (suc k)))) h).1))

@@ -6,12 +6,12 @@ use Rattle.kinds.specs.declared.Kind.{Kind}
 abbrev pub kinds : List Kind
 kinds = Kind.Lock ∷ Kind.Plain ∷ Kind.Fast ∷ []
 
-abbrev pub lastKind : ℕ
-lastKind = length kinds
+abbrev pub last_kind : ℕ
+last_kind = length kinds
 
 -- k is the number of none of the kinds 1 to `last`
-abbrev pub badKind : ℕ → ℕ → Bool
-badKind last k = outside 1 last k
+abbrev pub bad_kind : ℕ → ℕ → Bool
+bad_kind last k = outside 1 last k
 
 -- the kind with the number k; beside the table the nearest
 abbrev pub kind_of : ℕ → Kind

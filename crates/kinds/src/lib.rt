@@ -1,6 +1,6 @@
 // The kinds: what a trace is run against, and the number of each in a setup.
 ghost use Rattle.std.specs.Prelude.{◌≡◌};
-ghost use Rattle.kinds.specs.Kinds.{badKind, kind_of};
+ghost use Rattle.kinds.specs.Kinds.{bad_kind, kind_of};
 
 // The slot lock (kind 1), the plain decision (kind 2), the fast decision (kind 3).
 #[derive(Drop)]
@@ -15,7 +15,7 @@ pub const LAST: u32 = 3;
 
 // Whether k is the number of none of the kinds 1 to `last`.
 pub fn is_bad_kind(last: u32, k: u32) -> bool
-    ensures { result ≡ badKind last k }
+    ensures { result ≡ bad_kind last k }
 {
     if k < 1 {
         return true;

@@ -14,9 +14,9 @@ use lib.ListN.{length, take, drop, set, length-append, length-take, length-drop,
 use lib.Seq.{take-length, take-append_seam, drop-append-add, drop-drop, set_split}
 use Rattle.terms.proofs.Parts.{part_to_end}
 use Rattle.terms.specs.Overlay.{spliced}
-use Rattle.terms.proofs.OverlayLaws.{spliced-then}
+use Rattle.terms.proofs.OverlayLaws.{spliced_then}
 use Rattle.listing.specs.Put.{Put}
-use Rattle.listing.specs.Text.{zeroDigit, mostDigits, digits, decimal, processLine, processLines}
+use Rattle.listing.specs.Text.{zero_digit, most_digits, digits, decimal, process_line, process_lines}
 
 -- PIECES
 
@@ -27,13 +27,13 @@ put_then {at = at} {a = a} {b = b} {s = s} p q =
       short = omega (arith, length-append a b, p.short, q.short);
       fits = p.fits;
       end = omega (arith, length-append a b, p.end, q.end);
-      text = rw (q.text, p.end, p.text) (spliced-then at a b s p.fits);
+      text = rw (q.text, p.end, p.text) (spliced_then at a b s p.fits);
     }
 
 -- nothing
-pub put-none : (at : ℕ) (s : List ℕ) → at ≤ length s → Put 0 at [] s at s
+pub put_none : (at : ℕ) (s : List ℕ) → at ≤ length s → Put 0 at [] s at s
 unfolding spliced
-put-none at s h = record { short = omega arith; fits = h; end = omega arith; text = rw (add-zero, take-append-drop) }
+put_none at s h = record { short = omega arith; fits = h; end = omega arith; text = rw (add-zero, take-append-drop) }
 
 -- one byte
 pub put_one : (b at : ℕ) (s : List ℕ) → at < length s → Put 1 at (b ∷ []) s (at + 1) (set s at b)
@@ -47,11 +47,11 @@ put_one b at s h =
     }
 
 -- a word, by `bytes::copy(word, &mut text[at..])`, which leaves `part` there
-pub put-copied : (word : List ℕ) (at : ℕ) (s part : List ℕ) → at + length word ≤ length s
+pub put_copied : (word : List ℕ) (at : ℕ) (s part : List ℕ) → at + length word ≤ length s
     → part ≡ take (length word) word ++ drop (length word) (take (length s - at) (drop at s))
     → Put (length word) at word s (at + length word) (put_mid at (length s - at) s part)
 unfolding spliced
-put-copied word at s part h e =
+put_copied word at s part h e =
     let after : drop (length s - at) (drop at s) ≡ [] = drop_of_length-le (drop at s) {i = length s - at} (omega (arith, length-drop at s)) in
     record {
       short = omega arith;
@@ -64,8 +64,8 @@ put-copied word at s part h e =
 pub put_is : {m at i : ℕ} {a s t : List ℕ} → Put m at a s i t → {b : List ℕ} → a ≡ b → Put m at b s i t
 put_is p e = rw e at p
 
-pub put-within : {m at i : ℕ} {a s t : List ℕ} → Put m at a s i t → (n : ℕ) → length a ≤ n → Put n at a s i t
-put-within p n h = record { short = h; fits = p.fits; end = p.end; text = p.text }
+pub put_within : {m at i : ℕ} {a s t : List ℕ} → Put m at a s i t → (n : ℕ) → length a ≤ n → Put n at a s i t
+put_within p n h = record { short = h; fits = p.fits; end = p.end; text = p.text }
 
 -- DIGITS
 
@@ -79,39 +79,39 @@ digits-length zero x = omega arith
 digits-length (suc k) x = simp length-append (omega (arith, tenth-length (ltb x 10) k (digits k (x / 10)) (digits-length k (x / 10))))
 
 -- one digit is enough below 10, and k + 1 digits below 10 ^ (k + 1)
-digits_last : (k x : ℕ) → x < 10 → digits (suc k) x ≡ (zeroDigit + x % 10) ∷ []
+digits_last : (k x : ℕ) → x < 10 → digits (suc k) x ≡ (zero_digit + x % 10) ∷ []
 unfolding digits
 digits_last k x h = rw (lt-ltb x 10 h)
 
-digits_more : (k x : ℕ) → 10 ≤ x → digits (suc k) x ≡ digits k (x / 10) ++ ((zeroDigit + x % 10) ∷ [])
+digits_more : (k x : ℕ) → 10 ≤ x → digits (suc k) x ≡ digits k (x / 10) ++ ((zero_digit + x % 10) ∷ [])
 unfolding digits
 digits_more k x h = rw (le-ltb x 10 h)
 
-digits-enough : (k x : ℕ) → x < 10 ^ suc k → digits (suc k) x ≡ digits (suc (suc k)) x
+digits_enough : (k x : ℕ) → x < 10 ^ suc k → digits (suc k) x ≡ digits (suc (suc k)) x
 unfolding digits
-digits-enough zero x h = rw (lt-ltb x 10 (omega arith))
-digits-enough (suc k) x h =
+digits_enough zero x h = rw (lt-ltb x 10 (omega arith))
+digits_enough (suc k) x h =
     let small : x / 10 < 10 ^ suc k = omega (arith, pow-suc 10 (suc k)) in
-    ap (λ (tenth : List ℕ). cond (ltb x 10) [] tenth ++ ((zeroDigit + x % 10) ∷ [])) (digits-enough k (x / 10) small)
+    ap (λ (tenth : List ℕ). cond (ltb x 10) [] tenth ++ ((zero_digit + x % 10) ∷ [])) (digits_enough k (x / 10) small)
 
-pub decimal-length : (x : ℕ) → length (decimal x) ≤ mostDigits
-decimal-length x = digits-length mostDigits x
+pub decimal-length : (x : ℕ) → length (decimal x) ≤ most_digits
+decimal-length x = digits-length most_digits x
 
-pub decimal-last : (x : ℕ) → x < 10 → (zeroDigit + x % 10) ∷ [] ≡ decimal x
-decimal-last x h = sym (digits_last 9 x h)
+pub decimal_last : (x : ℕ) → x < 10 → (zero_digit + x % 10) ∷ [] ≡ decimal x
+decimal_last x h = sym (digits_last 9 x h)
 
 -- the tenth of a 32-bit number has 9 digits at most
-tenth-enough : (x : ℕ) → x < 2 ^ 32 → digits 9 (x / 10) ≡ decimal (x / 10)
-tenth-enough x h = digits-enough 8 (x / 10) (omega arith)
+tenth_enough : (x : ℕ) → x < 2 ^ 32 → digits 9 (x / 10) ≡ decimal (x / 10)
+tenth_enough x h = digits_enough 8 (x / 10) (omega arith)
 
-pub decimal-tenth : (x : ℕ) → x < 2 ^ 32 → length (decimal (x / 10)) ≤ 9
-decimal-tenth x h = rw (← tenth-enough x h) (digits-length 9 (x / 10))
+pub decimal_tenth : (x : ℕ) → x < 2 ^ 32 → length (decimal (x / 10)) ≤ 9
+decimal_tenth x h = rw (← tenth_enough x h) (digits-length 9 (x / 10))
 
-pub decimal-more : (x : ℕ) → 10 ≤ x → x < 2 ^ 32 → decimal (x / 10) ++ ((zeroDigit + x % 10) ∷ []) ≡ decimal x
-decimal-more x h f = rw (← tenth-enough x f) (sym (digits_more 9 x h))
+pub decimal_more : (x : ℕ) → 10 ≤ x → x < 2 ^ 32 → decimal (x / 10) ++ ((zero_digit + x % 10) ∷ []) ≡ decimal x
+decimal_more x h f = rw (← tenth_enough x f) (sym (digits_more 9 x h))
 
 -- LINES
 
-pub lines_more : (report : List ℕ) (j : ℕ) → processLines report j ++ processLine report j ≡ processLines report (j + 1)
-unfolding processLines
-lines_more report j = ap (processLines report) (sym (add-one j))
+pub lines_more : (report : List ℕ) (j : ℕ) → process_lines report j ++ process_line report j ≡ process_lines report (j + 1)
+unfolding process_lines
+lines_more report j = ap (process_lines report) (sym (add-one j))

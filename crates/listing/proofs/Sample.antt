@@ -4,13 +4,13 @@ use Prim.Native.Nat.{ℕ, ◌<◌}
 use mathlib.Core.Path.{◌≡◌, refl, sym}
 use mathlib.Core.List.{List, [], ◌∷◌}
 use lib.ListN.{length}
-use Rattle.bank.specs.Registers.{afterRead, afterWrite}
-use Rattle.setups.specs.Setup.{badSize, badStart, setupRefusal}
-use Rattle.steps.specs.Step.{stepRefusal}
-use Rattle.model.specs.Run.{startRows, fresh, move_at, stop, after, judge, recordRefusal, advance, follow, runOn, records, runRefusal}
-use Rattle.model.specs.Report.{line, lines, reportOf, outcomeOf, ranOf}
-use Rattle.listing.specs.Text.{digits, processLines, ranText, text_of}
-use Rattle.listing.proofs.TextLaws.{text-over}
+use Rattle.bank.specs.Registers.{after_read, after_write}
+use Rattle.setups.specs.Setup.{bad_size, bad_start, setup_refusal}
+use Rattle.steps.specs.Step.{step_refusal}
+use Rattle.model.specs.Run.{start_rows, fresh, move_at, stop, after, judge, record_refusal, advance, follow, run_on, records, run_refusal}
+use Rattle.model.specs.Report.{line, lines, report_of, outcome_of, ran_of}
+use Rattle.listing.specs.Text.{digits, process_lines, ran_text, text_of}
+use Rattle.listing.proofs.TextLaws.{text_over}
 
 -- 4F 53 02 02 02 00 02 00 01 02, and steps of process 1 at ticks 0, 1, 1, 2, 5
 abbrev input : List ℕ
@@ -35,20 +35,20 @@ text =
     ∷ []
 
 pub sample : text_of input ≡ text
-unfolding afterRead afterWrite badSize badStart setupRefusal stepRefusal startRows fresh move_at stop after judge recordRefusal
-    advance follow runOn records runRefusal line lines reportOf outcomeOf ranOf digits processLines ranText text_of
+unfolding after_read after_write bad_size bad_start setup_refusal step_refusal start_rows fresh move_at stop after judge record_refusal
+    advance follow run_on records run_refusal line lines report_of outcome_of ran_of digits process_lines ran_text text_of
 sample = refl
 
 -- that setup and a move of process 17: `refused 11 at record 1`
-pub refused-sample : text_of
+pub refused_sample : text_of
     (0x4F ∷ 0x53 ∷ 0x02 ∷ 0x02 ∷ 0x02 ∷ 0x00 ∷ 0x02 ∷ 0x00 ∷ 0x01 ∷ 0x02 ∷ 0x4F ∷ 0x54 ∷ 0x11 ∷ 0x00 ∷ 0x00 ∷ 0x00 ∷ 0x00 ∷ 0x00 ∷ [])
     ≡ 0x72 ∷ 0x65 ∷ 0x66 ∷ 0x75 ∷ 0x73 ∷ 0x65 ∷ 0x64 ∷ 0x20 ∷ 0x31 ∷ 0x31 ∷ 0x20 ∷ 0x61 ∷ 0x74 ∷ 0x20
     ∷ 0x72 ∷ 0x65 ∷ 0x63 ∷ 0x6F ∷ 0x72 ∷ 0x64 ∷ 0x20 ∷ 0x31 ∷ 0x0A ∷ []
-unfolding afterRead afterWrite badSize badStart setupRefusal stepRefusal startRows fresh move_at stop after judge recordRefusal
-    advance follow runOn records runRefusal line lines reportOf outcomeOf ranOf digits processLines ranText text_of
-refused-sample = refl
+unfolding after_read after_write bad_size bad_start setup_refusal step_refusal start_rows fresh move_at stop after judge record_refusal
+    advance follow run_on records run_refusal line lines report_of outcome_of ran_of digits process_lines ran_text text_of
+refused_sample = refl
 
 -- `input over 65536`
-pub over-sample : (s : List ℕ) → 65_536 < length s
+pub over_sample : (s : List ℕ) → 65_536 < length s
     → text_of s ≡ 0x69 ∷ 0x6E ∷ 0x70 ∷ 0x75 ∷ 0x74 ∷ 0x20 ∷ 0x6F ∷ 0x76 ∷ 0x65 ∷ 0x72 ∷ 0x20 ∷ 0x36 ∷ 0x35 ∷ 0x35 ∷ 0x33 ∷ 0x36 ∷ 0x0A ∷ []
-over-sample s h = sym (text-over s h)
+over_sample s h = sym (text_over s h)

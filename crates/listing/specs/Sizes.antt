@@ -1,22 +1,22 @@
 -- How many bytes a piece of the text has at most.
 use Rattle.std.specs.Prelude.{ℕ, ◌+◌, ◌*◌, length}
-use Rattle.terms.specs.Limits.{mostProcesses}
-use Rattle.listing.specs.Text.{mostDigits, kindWord, processesWord, recordsWord, refusedWord, atRecordWord}
+use Rattle.terms.specs.Limits.{most_processes}
+use Rattle.listing.specs.Text.{most_digits, kind_word, processes_word, records_word, refused_word, at_record_word}
 
 -- a number and what stands after it
-abbrev pub figureBytes : ℕ
-figureBytes = mostDigits + 1
+abbrev pub figure_bytes : ℕ
+figure_bytes = most_digits + 1
 
 -- a process's line has five figures: number, place, second figure, moves, late writes
-abbrev pub lineBytes : ℕ
-lineBytes = 5 * figureBytes
+abbrev pub line_bytes : ℕ
+line_bytes = 5 * figure_bytes
 
-abbrev pub headBytes : ℕ
-headBytes = length kindWord + mostDigits + length processesWord + mostDigits + length recordsWord + figureBytes
+abbrev pub head_bytes : ℕ
+head_bytes = length kind_word + most_digits + length processes_word + most_digits + length records_word + figure_bytes
 
-abbrev pub refusedBytes : ℕ
-refusedBytes = length refusedWord + mostDigits + length atRecordWord + figureBytes
+abbrev pub refused_bytes : ℕ
+refused_bytes = length refused_word + most_digits + length at_record_word + figure_bytes
 
 -- a whole text: the head and all the lines that there may be
-abbrev pub textBytes : ℕ
-textBytes = headBytes + lineBytes * mostProcesses
+abbrev pub text_bytes : ℕ
+text_bytes = head_bytes + line_bytes * most_processes

@@ -2,11 +2,11 @@
 ghost use Rattle.std.specs.Prelude.{◌≡◌, [], ◌∷◌, ◌++◌, ◌+◌, ◌*◌, ◌≤◌, ◌<◌, length};
 ghost use Rattle.records.specs.Record.{byte};
 ghost use Rattle.listing.specs.Put.{Put};
-ghost use Rattle.listing.specs.Sizes.{figureBytes, lineBytes, headBytes, refusedBytes, textBytes};
-ghost use Rattle.listing.specs.Text.{mostDigits, decimal, headLine, refusedLine, processLine, processLines, ranText, Listed};
+ghost use Rattle.listing.specs.Sizes.{figure_bytes, line_bytes, head_bytes, refused_bytes, text_bytes};
+ghost use Rattle.listing.specs.Text.{most_digits, decimal, head_line, refused_line, process_line, process_lines, ran_text, Listed};
 ghost use Rattle.model.specs.Report.{Ran};
-ghost use Rattle.model.specs.Sizes.{lineWidth, reportWidth};
-ghost use Rattle.terms.specs.Limits.{mostProcesses};
+ghost use Rattle.model.specs.Sizes.{line_width, report_width};
+ghost use Rattle.terms.specs.Limits.{most_processes};
 
 use engine::runs;
 use model::{LINE, Outcome, REPORT};
@@ -40,8 +40,8 @@ fn put_word(word: &[u8], at: usize, text: &mut [u8]) -> usize
 }
 
 fn put_number(x: u32, at: usize, text: &mut [u8]) -> usize
-    requires { at + mostDigits ≤ length text.old }
-    ensures { Put mostDigits at (decimal x) text.old result text.new }
+    requires { at + most_digits ≤ length text.old }
+    ensures { Put most_digits at (decimal x) text.old result text.new }
 {
     let digit = b'0' + (x % 10) as u8;
     if x < 10 {
@@ -53,8 +53,8 @@ fn put_number(x: u32, at: usize, text: &mut [u8]) -> usize
 
 // A number and what stands after it: a space, or the newline.
 fn put_figure(x: u32, after: u8, at: usize, text: &mut [u8]) -> usize
-    requires { at + figureBytes ≤ length text.old }
-    ensures { Put figureBytes at (decimal x ++ (after ∷ [])) text.old result text.new }
+    requires { at + figure_bytes ≤ length text.old }
+    ensures { Put figure_bytes at (decimal x ++ (after ∷ [])) text.old result text.new }
 {
     let next = put_number(x, at, text);
     put_byte(after, next, text)
@@ -62,8 +62,8 @@ fn put_figure(x: u32, after: u8, at: usize, text: &mut [u8]) -> usize
 
 // The line of the process at index j: number, place, second figure, moves, late writes.
 fn put_line(report: &[u32; REPORT], j: usize, at: usize, text: &mut [u8]) -> usize
-    requires { (j < mostProcesses) × (at + lineBytes ≤ length text.old) }
-    ensures { Put lineBytes at (processLine report.now j) text.old result text.new }
+    requires { (j < most_processes) × (at + line_bytes ≤ length text.old) }
+    ensures { Put line_bytes at (process_line report.now j) text.old result text.new }
 {
     let line = LINE * j;
     let next = put_figure(j as u32 + 1, b' ', at, text);
@@ -75,8 +75,8 @@ fn put_line(report: &[u32; REPORT], j: usize, at: usize, text: &mut [u8]) -> usi
 
 // The lines of the first n processes.
 fn put_lines(report: &[u32; REPORT], n: usize, at: usize, text: &mut [u8]) -> usize
-    requires { (n ≤ mostProcesses) × (at + lineBytes * n ≤ length text.old) }
-    ensures { Put (lineBytes * n) at (processLines report.now n) text.old result text.new }
+    requires { (n ≤ most_processes) × (at + line_bytes * n ≤ length text.old) }
+    ensures { Put (line_bytes * n) at (process_lines report.now n) text.old result text.new }
 {
     let mut next = at;
     let mut j: usize = 0;
@@ -89,8 +89,8 @@ fn put_lines(report: &[u32; REPORT], n: usize, at: usize, text: &mut [u8]) -> us
 
 // `kind K processes N records R`
 fn put_head(kind: u32, n: u32, accepted: u32, text: &mut [u8]) -> usize
-    requires { headBytes ≤ length text.old }
-    ensures { Put headBytes 0 (headLine kind n accepted) text.old result text.new }
+    requires { head_bytes ≤ length text.old }
+    ensures { Put head_bytes 0 (head_line kind n accepted) text.old result text.new }
 {
     let next = put_word(b"kind ", 0, text);
     let next = put_number(kind, next, text);
@@ -102,8 +102,8 @@ fn put_head(kind: u32, n: u32, accepted: u32, text: &mut [u8]) -> usize
 
 // `refused NO at record INDEX`
 fn put_refused(number: u32, index: u32, text: &mut [u8]) -> usize
-    requires { refusedBytes ≤ length text.old }
-    ensures { Put refusedBytes 0 (refusedLine number index) text.old result text.new }
+    requires { refused_bytes ≤ length text.old }
+    ensures { Put refused_bytes 0 (refused_line number index) text.old result text.new }
 {
     let next = put_word(b"refused ", 0, text);
     let next = put_number(number, next, text);
@@ -113,9 +113,9 @@ fn put_refused(number: u32, index: u32, text: &mut [u8]) -> usize
 
 // What a run returned and left: its lines, or its refusal.
 fn put_ran(input: &[u8], ran: Outcome, report: &[u32; REPORT], text: &mut [u8]) -> usize
-    requires { (ran.number ≡ 0 → lineWidth * byte 3 input.now ≤ reportWidth) × (textBytes ≤ length text.old) }
+    requires { (ran.number ≡ 0 → line_width * byte 3 input.now ≤ report_width) × (text_bytes ≤ length text.old) }
     ensures { let told : Ran = record { outcome = ran; report = report.now } in
-        Put textBytes 0 (ranText input.now told) text.old result text.new }
+        Put text_bytes 0 (ran_text input.now told) text.old result text.new }
 {
     if ran.number != 0 {
         return put_refused(ran.number, ran.at, text);

@@ -12,12 +12,12 @@ use lib.Seq.{get_or-take, take-take, take-nil, drop-nil}
 use borrow.Author.Tests.{lt-ltb, le-ltb, ltb-true, ltb-false}
 use Rattle.terms.specs.Refusal.{◌then◌}
 use Rattle.records.specs.Record.{byte}
-use Rattle.setups.specs.Setup.{setupRefusal, startBytes}
-use Rattle.steps.specs.Step.{stepRefusal, stepFields}
+use Rattle.setups.specs.Setup.{setup_refusal, start_bytes}
+use Rattle.steps.specs.Step.{step_refusal, step_fields}
 use Rattle.steps.specs.declared.Step.{Step}
 use Rattle.model.specs.declared.Shape.{Shape}
 use Rattle.model.specs.declared.State.{State}
-use Rattle.model.specs.Run.{Progress, Progress.going, Progress.stopped, row_of, judge, recordRefusal, recordAt, advance, follow, stepTape, reach}
+use Rattle.model.specs.Run.{Progress, Progress.going, Progress.stopped, row_of, judge, record_refusal, record_at, advance, follow, step_tape, reach}
 use Rattle.model.specs.Run.{shape, rest_of}
 
 -- the part past i of what is cut at i + n
@@ -39,11 +39,11 @@ module _ (m : ℕ) (s : List ℕ) (h : 8 ≤ m) where
   byte_cut : (i : ℕ) → i < 8 → byte i (take m s) ≡ byte i s
   byte_cut i l = get_or-take m s i 0 (omega arith)
 
-  fields-cut : stepFields (take m s) ≡ stepFields s
-  fields-cut = rw (byte_cut 2 (lit< tt), byte_cut 3 (lit< tt), byte_cut 4 (lit< tt), byte_cut 5 (lit< tt), byte_cut 6 (lit< tt), byte_cut 7 (lit< tt))
+  fields_cut : step_fields (take m s) ≡ step_fields s
+  fields_cut = rw (byte_cut 2 (lit< tt), byte_cut 3 (lit< tt), byte_cut 4 (lit< tt), byte_cut 5 (lit< tt), byte_cut 6 (lit< tt), byte_cut 7 (lit< tt))
 
-  step_cut : (most : ℕ) → stepRefusal most (take m s) ≡ stepRefusal most s
-  unfolding stepRefusal
+  step_cut : (most : ℕ) → step_refusal most (take m s) ≡ step_refusal most s
+  unfolding step_refusal
   step_cut most =
       rw (
         short_cut m s 8 h,
@@ -57,25 +57,25 @@ module _ (m : ℕ) (s : List ℕ) (h : 8 ≤ m) where
         byte_cut 7 (lit< tt),
       )
 
-  record-cut : (u : Shape) (x : State) → recordRefusal u x (take m s) ≡ recordRefusal u x s
-  unfolding recordRefusal
-  record-cut u x = ap₂ (λ (n : ℕ) (k : Step). n then judge u (row_of x k.process) x.newest k) (step_cut u.count) fields-cut
+  record_cut : (u : Shape) (x : State) → record_refusal u x (take m s) ≡ record_refusal u x s
+  unfolding record_refusal
+  record_cut u x = ap₂ (λ (n : ℕ) (k : Step). n then judge u (row_of x k.process) x.newest k) (step_cut u.count) fields_cut
 
 -- the first k records of bytes that are cut after them or later
-pub reach-cut : (u : Shape) (x : State) (rest : List ℕ) (m k : ℕ) → k * 8 ≤ m → reach u x (take m rest) k ≡ reach u x rest k
+pub reach_cut : (u : Shape) (x : State) (rest : List ℕ) (m k : ℕ) → k * 8 ≤ m → reach u x (take m rest) k ≡ reach u x rest k
 unfolding follow advance
-reach-cut u x rest m zero h = refl
-reach-cut u x rest m (suc k) h = ap (advance (stepTape u (take m rest)) k) (reach-cut u x rest m k (omega arith)) ∙ here (reach u x rest k)
+reach_cut u x rest m zero h = refl
+reach_cut u x rest m (suc k) h = ap (advance (step_tape u (take m rest)) k) (reach_cut u x rest m k (omega arith)) ∙ here (reach u x rest k)
   where
-    part : recordAt (take m rest) k ≡ take (m - k * 8) (recordAt rest k)
+    part : record_at (take m rest) k ≡ take (m - k * 8) (record_at rest k)
     part =
         let split : m ≡ k * 8 + (m - k * 8) = omega arith in
-        ap (λ (n : ℕ). recordAt (take n rest) k) split ∙ drop-take (k * 8) (m - k * 8) rest
+        ap (λ (n : ℕ). record_at (take n rest) k) split ∙ drop-take (k * 8) (m - k * 8) rest
 
-    here : (p : Progress) → advance (stepTape u (take m rest)) k p ≡ advance (stepTape u rest) k p
+    here : (p : Progress) → advance (step_tape u (take m rest)) k p ≡ advance (step_tape u rest) k p
     here (going y) =
         let eight : 8 ≤ m - k * 8 = omega arith in
-        rw (part, record-cut (m - k * 8) (recordAt rest k) eight u y, fields-cut (m - k * 8) (recordAt rest k) eight)
+        rw (part, record_cut (m - k * 8) (record_at rest k) eight u y, fields_cut (m - k * 8) (record_at rest k) eight)
     here (stopped y j) = refl
 
 -- A SETUP, cut past its start bytes
@@ -86,20 +86,20 @@ module _ (trace : List ℕ) (m : ℕ) where
   at : (i : ℕ) → i < 8 → byte i front ≡ byte i trace
   at = byte_cut (8 + byte 3 trace + m) trace (omega arith)
 
-  pub starts-cut : startBytes front ≡ startBytes trace
-  starts-cut =
+  pub starts_cut : start_bytes front ≡ start_bytes trace
+  starts_cut =
       let n = byte 3 trace in
       let split : 8 + n + m ≡ 8 + (n + m) = omega arith in
       rw (at 3 (lit< tt), split, drop-take 8 (n + m) trace, take-take n (n + m) (drop 8 trace) (omega arith))
 
-  pub shape-cut : shape front ≡ shape trace
-  shape-cut = rw (at 2 (lit< tt), at 3 (lit< tt), at 4 (lit< tt), at 6 (lit< tt), at 7 (lit< tt))
+  pub shape_cut : shape front ≡ shape trace
+  shape_cut = rw (at 2 (lit< tt), at 3 (lit< tt), at 4 (lit< tt), at 6 (lit< tt), at 7 (lit< tt))
 
-  pub setup-cut : (most : ℕ) → setupRefusal most front ≡ setupRefusal most trace
-  unfolding setupRefusal
-  setup-cut most =
+  pub setup_cut : (most : ℕ) → setup_refusal most front ≡ setup_refusal most trace
+  unfolding setup_refusal
+  setup_cut most =
       rw (
-        starts-cut,
+        starts_cut,
         at 0 (lit< tt),
         at 1 (lit< tt),
         at 2 (lit< tt),
@@ -110,5 +110,5 @@ module _ (trace : List ℕ) (m : ℕ) where
         short_cut (8 + byte 3 trace + m) trace (8 + byte 3 trace) (omega arith),
       )
 
-  pub rest-cut : rest_of front ≡ take m (rest_of trace)
-  rest-cut = rw (at 3 (lit< tt)) (drop-take (8 + byte 3 trace) m trace)
+  pub rest_cut : rest_of front ≡ take m (rest_of trace)
+  rest_cut = rw (at 3 (lit< tt)) (drop-take (8 + byte 3 trace) m trace)

@@ -6,7 +6,7 @@ use Prim.Native.Nat.{ℕ, ◌+◌, ◌≤◌, ◌<◌}
 use mathlib.Core.Path.{◌≡◌, refl, sym, ◌∙◌}
 use mathlib.Core.Logic.{◌≢◌}
 use native.Mathlib.Omega.{arith}
-use Rattle.model.proofs.World.{Seat, Commons, World, Putting, Clock, wakeOf, put, put_all, put_other, moved, slot_at, own_of}
+use Rattle.model.proofs.World.{Seat, Commons, World, Putting, Clock, wake_of, put, put_all, put_other, moved, slot_at, own_of}
 
 -- every put to register c that is pending is late from the tick `wake` on
 abbrev pub LateFrom : World → ℕ → ℕ → Type 0
@@ -14,24 +14,24 @@ LateFrom w c wake = (j : ℕ) → Putting (w.seat j) → slot_at (w.seat j) ≡ 
 
 -- every pending put was bound by a read before now: it is late once a wait is over that begins now
 abbrev pub Bound : Clock → World → Type 0
-Bound k w = (j : ℕ) → Putting (w.seat j) → (w.seat j).deadline < wakeOf k w.floor
+Bound k w = (j : ℕ) → Putting (w.seat j) → (w.seat j).deadline < wake_of k w.floor
 
 -- a read at t with the wait Δ binds so
-pub read-binds : (k : Clock) (t d : ℕ) → d ≡ t + k.delta → d < wakeOf k (k.next t)
-read-binds k t d e = omega (arith, k.onward t)
+pub read_binds : (k : Clock) (t d : ℕ) → d ≡ t + k.delta → d < wake_of k (k.next t)
+read_binds k t d e = omega (arith, k.onward t)
 
 -- and a deadline stays so while time goes on
-pub stays-bound : (k : Clock) (f t d : ℕ) → f ≤ t → d < wakeOf k f → d < wakeOf k t
-stays-bound k f t d h b = omega arith
+pub stays_bound : (k : Clock) (f t d : ℕ) → f ≤ t → d < wake_of k f → d < wake_of k t
+stays_bound k f t d h b = omega arith
 
 -- what is pending when a wait begins at tick t is late from the end of the wait on
-pub wait-outlasts : (k : Clock) (w : World) (t c : ℕ) → Bound k w → w.floor ≤ t → LateFrom w c (wakeOf k t)
-wait-outlasts k w t c bound h j p e = stays-bound k w.floor t (w.seat j).deadline h (bound j p)
+pub wait_outlasts : (k : Clock) (w : World) (t c : ℕ) → Bound k w → w.floor ≤ t → LateFrom w c (wake_of k t)
+wait_outlasts k w t c bound h j p e = stays_bound k w.floor t (w.seat j).deadline h (bound j p)
 
 -- so a write that is not late, after that, is to another register
-pub in-time-elsewhere : (w : World) (c wake : ℕ) → LateFrom w c wake → (m t : ℕ) → wake ≤ t → Putting (w.seat m) → t ≤ (w.seat m).deadline
+pub in_time_elsewhere : (w : World) (c wake : ℕ) → LateFrom w c wake → (m t : ℕ) → wake ≤ t → Putting (w.seat m) → t ≤ (w.seat m).deadline
     → slot_at (w.seat m) ≢ c
-in-time-elsewhere w c wake late m t h p g e = omega (arith, late m p e)
+in_time_elsewhere w c wake late m t h p g e = omega (arith, late m p e)
 
 -- THEOREM 1
 
@@ -48,18 +48,18 @@ pub data Touches (w : World) (m t : ℕ) : (ℕ → ℕ) → Type 0 where
   write : Putting (w.seat m) → t ≤ (w.seat m).deadline → Touches w m t (put w.value (slot_at (w.seat m)) (own_of (w.seat m)))
 
 -- the value stands, whoever moves
-pub definitive-stands : (w : World) (c m t : ℕ) {v : ℕ → ℕ} → Definitive w c → w.floor ≤ t → Touches w m t v → v c ≡ w.value c
-definitive-stands w c m t def h none = refl
-definitive-stands w c m t def h (write p g) =
+pub definitive_stands : (w : World) (c m t : ℕ) {v : ℕ → ℕ} → Definitive w c → w.floor ≤ t → Touches w m t v → v c ≡ w.value c
+definitive_stands w c m t def h none = refl
+definitive_stands w c m t def h (write p g) =
     put_other w.value (slot_at (w.seat m)) c (own_of (w.seat m))
-    (λ e. in-time-elsewhere w c def.wake def.late m t (omega (arith, def.over)) p g (sym e))
+    (λ e. in_time_elsewhere w c def.wake def.late m t (omega (arith, def.over)) p g (sym e))
 
 -- and stays definitive, where a process m comes to its put only if it read its register empty
-pub definitive-stays : (w : World) (c m t f : ℕ) (s : Seat) (v : ℕ → ℕ) (g : Commons) → Definitive w c → w.floor ≤ t → w.floor ≤ f
+pub definitive_stays : (w : World) (c m t f : ℕ) (s : Seat) (v : ℕ → ℕ) (g : Commons) → Definitive w c → w.floor ≤ t → w.floor ≤ f
     → Touches w m t v → (Putting s → w.value (slot_at s) ≡ 0) → Definitive (moved w m s v g f) c
-definitive-stays w c m t f s v g def h l move reads =
+definitive_stays w c m t f s v g def h l move reads =
     record {
-      filled = λ z. def.filled (sym (definitive-stands w c m t def h move) ∙ z);
+      filled = λ z. def.filled (sym (definitive_stands w c m t def h move) ∙ z);
       wake = def.wake;
       over = omega (arith, def.over);
       late =
@@ -74,7 +74,7 @@ pub data Onward : World → World → Type 0 where
       → (Putting s → w.value (slot_at s) ≡ 0) → Onward (moved w m s v g f) w' → Onward w w'
 
 -- whoever reads the register from then on reads the same
-pub theorem-1 : {w w' : World} (c : ℕ) → Onward w w' → Definitive w c → w'.value c ≡ w.value c
-theorem-1 c now def = refl
-theorem-1 {w} c (further m t f s v g h l move reads rest) def =
-    theorem-1 c rest (definitive-stays w c m t f s v g def h l move reads) ∙ definitive-stands w c m t def h move
+pub theorem_1 : {w w' : World} (c : ℕ) → Onward w w' → Definitive w c → w'.value c ≡ w.value c
+theorem_1 c now def = refl
+theorem_1 {w} c (further m t f s v g h l move reads rest) def =
+    theorem_1 c rest (definitive_stays w c m t f s v g def h l move reads) ∙ definitive_stands w c m t def h move

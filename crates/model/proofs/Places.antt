@@ -11,45 +11,45 @@ use Rattle.model.specs.Routine.{Routine}
 -- THE CODE
 
 -- a code is that of one place
-pub place-of-code : (p : Place) → place_of (code_of p) ≡ p
-place-of-code Place.Rest = refl
-place-of-code Place.Look = refl
-place-of-code Place.Put = refl
-place-of-code Place.Wait = refl
-place-of-code Place.Check = refl
-place-of-code Place.Critical = refl
-place-of-code Place.Flag = refl
-place-of-code Place.Scan = refl
-place-of-code Place.Decided = refl
+pub place_of_code : (p : Place) → place_of (code_of p) ≡ p
+place_of_code Place.Rest = refl
+place_of_code Place.Look = refl
+place_of_code Place.Put = refl
+place_of_code Place.Wait = refl
+place_of_code Place.Check = refl
+place_of_code Place.Critical = refl
+place_of_code Place.Flag = refl
+place_of_code Place.Scan = refl
+place_of_code Place.Decided = refl
 
 pub one_place : (p q : Place) → code_of p ≡ code_of q → p ≡ q
-one_place p q e = sym (place-of-code p) ∙ ap place_of e ∙ place-of-code q
+one_place p q e = sym (place_of_code p) ∙ ap place_of e ∙ place_of_code q
 
 -- CLASSES
 
 -- the places of the lock, and those of each routine
-abbrev pub ofLock : Place → Bool
-ofLock p = leb (code_of p) 5
+abbrev pub of_lock : Place → Bool
+of_lock p = leb (code_of p) 5
 
-abbrev pub inKind : Routine → Place → Bool
-inKind (Routine.Lock how) p = ofLock p
-inKind Routine.Plain p = (leb 1 (code_of p) && leb (code_of p) 4) || eqb (code_of p) 8
-inKind Routine.Fast p = (leb 1 (code_of p) && leb (code_of p) 4) || (leb 6 (code_of p) && leb (code_of p) 8)
+abbrev pub in_kind : Routine → Place → Bool
+in_kind (Routine.Lock how) p = of_lock p
+in_kind Routine.Plain p = (leb 1 (code_of p) && leb (code_of p) 4) || eqb (code_of p) 8
+in_kind Routine.Fast p = (leb 1 (code_of p) && leb (code_of p) 4) || (leb 6 (code_of p) && leb (code_of p) 8)
 
 -- the routines that decide by the timed register
-abbrev pub timedDecision : Routine → Bool
-timedDecision (Routine.Lock how) = false
-timedDecision Routine.Plain = true
-timedDecision Routine.Fast = true
+abbrev pub timed_decision : Routine → Bool
+timed_decision (Routine.Lock how) = false
+timed_decision Routine.Plain = true
+timed_decision Routine.Fast = true
 
 -- the place where a process of a routine begins; that, or a blank row's
-abbrev pub startPlace : Routine → Place
-startPlace (Routine.Lock how) = Place.Rest
-startPlace Routine.Plain = Place.Look
-startPlace Routine.Fast = Place.Flag
+abbrev pub start_place : Routine → Place
+start_place (Routine.Lock how) = Place.Rest
+start_place Routine.Plain = Place.Look
+start_place Routine.Fast = Place.Flag
 
 abbrev pub begins : Routine → Place → Bool
-begins κ p = eqb (code_of p) 0 || eqb (code_of p) (code_of (startPlace κ))
+begins κ p = eqb (code_of p) 0 || eqb (code_of p) (code_of (start_place κ))
 
 -- at look; at put; at scan; at look or put; decided
 abbrev pub looking : Place → Bool
@@ -100,8 +100,8 @@ everywhere f =
     ((f Place.Rest && f Place.Look) && (f Place.Put && f Place.Wait))
     && (((f Place.Check && f Place.Critical) && (f Place.Flag && f Place.Scan)) && f Place.Decided)
 
-pub every-place : (f : Place → Bool) → T (everywhere f) → (p : Place) → T (f p)
-every-place f t p =
+pub every_place : (f : Place → Bool) → T (everywhere f) → (p : Place) → T (f p)
+every_place f t p =
     let low : Bool = (f Place.Rest && f Place.Look) && (f Place.Put && f Place.Wait) in
     let mid : Bool = (f Place.Check && f Place.Critical) && (f Place.Flag && f Place.Scan) in
     let x = and_left low (mid && f Place.Decided) t in
@@ -134,19 +134,19 @@ clash false b t h g = h
 
 -- one test implies another at every place; two tests never hold at once
 pub imply : (f g : Place → Bool) → T (everywhere (λ p. not (f p) || g p)) → (p : Place) → T (f p) → T (g p)
-imply f g t p = apply (f p) (g p) (every-place (λ q. not (f q) || g q) t p)
+imply f g t p = apply (f p) (g p) (every_place (λ q. not (f q) || g q) t p)
 
 pub differ : (f g : Place → Bool) → T (everywhere (λ p. not (f p && g p))) → (p : Place) → T (f p) → T (g p) → ⊥
-differ f g t p = clash (f p) (g p) (every-place (λ q. not (f q && g q)) t p)
+differ f g t p = clash (f p) (g p) (every_place (λ q. not (f q && g q)) t p)
 
 -- the class of the decided is one place
-pub decided-place : (p : Place) → T (concluded p) → p ≡ Place.Decided
-decided-place Place.Rest h = absurd h
-decided-place Place.Look h = absurd h
-decided-place Place.Put h = absurd h
-decided-place Place.Wait h = absurd h
-decided-place Place.Check h = absurd h
-decided-place Place.Critical h = absurd h
-decided-place Place.Flag h = absurd h
-decided-place Place.Scan h = absurd h
-decided-place Place.Decided h = refl
+pub decided_place : (p : Place) → T (concluded p) → p ≡ Place.Decided
+decided_place Place.Rest h = absurd h
+decided_place Place.Look h = absurd h
+decided_place Place.Put h = absurd h
+decided_place Place.Wait h = absurd h
+decided_place Place.Check h = absurd h
+decided_place Place.Critical h = absurd h
+decided_place Place.Flag h = absurd h
+decided_place Place.Scan h = absurd h
+decided_place Place.Decided h = refl

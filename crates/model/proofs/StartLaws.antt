@@ -10,29 +10,29 @@ use borrow.Author.Tests.{ltb-true, ltb-false, lt-ltb, le-ltb, eqb-true, eqb-fals
 use lib.Dec.{eqb, ltb}
 use lib.ListN.{length, get_or, set, replicate, length-set}
 use lib.Seq.{ext_get_or, get_or-set_same, get_or-set_other}
-use Rattle.terms.specs.Limits.{mostProcesses}
+use Rattle.terms.specs.Limits.{most_processes}
 use Rattle.model.specs.declared.Shape.{Shape}
 use Rattle.model.specs.declared.Row.{Row}
 use Rattle.model.specs.Routine.{routine, begin}
-use Rattle.model.specs.Run.{blank, startRow, startRows}
-use Rattle.model.proofs.Keeping.{length-startRows, getD-startRows}
+use Rattle.model.specs.Run.{blank, start_row, start_rows}
+use Rattle.model.proofs.Keeping.{length-start_rows, get_or-start_rows}
 
 pub record Filled (u : Shape) (xs : List ℕ) (j : ℕ) (rows : List Row) : Type 0 where
-  pub long : length rows ≡ mostProcesses
-  pub first : (i : ℕ) → i < j → get_or rows i blank ≡ startRow u i (get_or xs i 0)
+  pub long : length rows ≡ most_processes
+  pub first : (i : ℕ) → i < j → get_or rows i blank ≡ start_row u i (get_or xs i 0)
   pub others : (i : ℕ) → j ≤ i → get_or rows i blank ≡ blank
 
-all-blank : (n i : ℕ) → get_or (replicate n blank) i blank ≡ blank
-all-blank zero i = refl
-all-blank (suc n) zero = refl
-all-blank (suc n) (suc i) = all-blank n i
+all_blank : (n i : ℕ) → get_or (replicate n blank) i blank ≡ blank
+all_blank zero i = refl
+all_blank (suc n) zero = refl
+all_blank (suc n) (suc i) = all_blank n i
 
 module _ (u : Shape) (xs : List ℕ) where
-  pub filled_none : (r : Row) → r ≡ blank → Filled u xs 0 (replicate mostProcesses r)
-  filled_none r e = rw e (record { long = refl; first = λ i h. absurd (omega arith); others = λ i h. all-blank mostProcesses i })
+  pub filled_none : (r : Row) → r ≡ blank → Filled u xs 0 (replicate most_processes r)
+  filled_none r e = rw e (record { long = refl; first = λ i h. absurd (omega arith); others = λ i h. all_blank most_processes i })
 
   module _ (j : ℕ) (rows : List Row) (filled : Filled u xs j rows) where
-    pub filled_more : j < mostProcesses → j < u.count → {r : Row} → r ≡ begin (routine u) j (get_or xs j 0) → Filled u xs (j + 1) (set rows j r)
+    pub filled_more : j < most_processes → j < u.count → {r : Row} → r ≡ begin (routine u) j (get_or xs j 0) → Filled u xs (j + 1) (set rows j r)
     filled_more room below {r} e =
         record {
           long = simp length-set filled.long;
@@ -40,7 +40,7 @@ module _ (u : Shape) (xs : List ℕ) where
           others = λ i h. get_or-set_other rows j i r blank (λ e. absurd (omega arith)) ∙ filled.others i (omega arith);
         }
       where
-        at : (i : ℕ) → i < j + 1 → (b : Bool) → eqb i j ≡ b → get_or (set rows j r) i blank ≡ startRow u i (get_or xs i 0)
+        at : (i : ℕ) → i < j + 1 → (b : Bool) → eqb i j ≡ b → get_or (set rows j r) i blank ≡ start_row u i (get_or xs i 0)
         at i h true s =
             let same : i ≡ j = eqb-true i j s in
             rw (same, get_or-set_same rows j r blank (omega (arith, filled.long)), lt-ltb j u.count below) e
@@ -48,13 +48,13 @@ module _ (u : Shape) (xs : List ℕ) where
             let differ = eqb-false i j s in
             get_or-set_other rows j i r blank differ ∙ filled.first i (omega arith)
 
-    pub filled-done : length xs ≡ mostProcesses → ((i : ℕ) → j ≤ i → i < mostProcesses → u.count ≤ i) → rows ≡ startRows u 0 xs
-    filled-done long past =
-        ext_get_or blank rows (startRows u 0 xs) (omega (arith, filled.long, length-startRows u 0 xs))
+    pub filled_done : length xs ≡ most_processes → ((i : ℕ) → j ≤ i → i < most_processes → u.count ≤ i) → rows ≡ start_rows u 0 xs
+    filled_done long past =
+        ext_get_or blank rows (start_rows u 0 xs) (omega (arith, filled.long, length-start_rows u 0 xs))
         (λ i h. at i (omega (arith, filled.long)) (ltb i j) refl)
       where
-        at : (i : ℕ) → i < mostProcesses → (b : Bool) → ltb i j ≡ b → get_or rows i blank ≡ get_or (startRows u 0 xs) i blank
-        at i h true s = rw (getD-startRows u 0 xs i (omega arith), zero-add) (filled.first i (ltb-true i j s))
+        at : (i : ℕ) → i < most_processes → (b : Bool) → ltb i j ≡ b → get_or rows i blank ≡ get_or (start_rows u 0 xs) i blank
+        at i h true s = rw (get_or-start_rows u 0 xs i (omega arith), zero-add) (filled.first i (ltb-true i j s))
         at i h false s =
             let beyond : j ≤ i = ltb-false i j s in
-            rw (getD-startRows u 0 xs i (omega arith), zero-add, le-ltb i u.count (past i beyond h)) (filled.others i beyond)
+            rw (get_or-start_rows u 0 xs i (omega arith), zero-add, le-ltb i u.count (past i beyond h)) (filled.others i beyond)

@@ -11,7 +11,7 @@ use borrow.Author.Tests.{eqb-true, eqb-false, eq-eqb, ne_eqb}
 use Rattle.model.specs.declared.Place.{Place}
 use Rattle.terms.specs.Limits.{unlimited}
 use Rattle.model.specs.declared.Row.{Row}
-use Rattle.model.specs.Time.{wakeAt}
+use Rattle.model.specs.Time.{wake_at}
 use Rattle.model.proofs.Places.{putting}
 
 pub record Seat : Type 0 where
@@ -39,8 +39,8 @@ Putting = Placed putting
 abbrev pub slot_at : Seat → ℕ
 slot_at s = s.row.local.slot.0
 
-abbrev pub wakeOn : Seat → ℕ
-wakeOn s = s.row.local.wake
+abbrev pub wake_on : Seat → ℕ
+wake_on s = s.row.local.wake
 
 abbrev pub own_of : Seat → ℕ
 own_of s = s.row.own_val
@@ -98,8 +98,8 @@ abbrev pub clock : Pace → ℕ → Clock
 clock c Δ = record { delta = Δ; next = c.next; onward = c.onward }
 
 -- what a row keeps of a wait that begins at t
-abbrev pub wakeOf : Clock → ℕ → ℕ
-wakeOf k t = wakeAt k.delta t
+abbrev pub wake_of : Clock → ℕ → ℕ
+wake_of k t = wake_at k.delta t
 
 -- A MOVE
 

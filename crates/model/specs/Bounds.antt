@@ -1,10 +1,10 @@
 -- What keeps the code's indices and sums in range: every state of a run has it (proofs/Keeping.antt), so the engine tests nothing twice.
 use Rattle.std.specs.Prelude.{ℕ, ◌≤◌, ◌<◌, ◌≡◌, ◌≢◌, List, length, get_or}
-use Rattle.terms.specs.Limits.{mostSlots, mostSteps, topWait, unlimited}
+use Rattle.terms.specs.Limits.{most_slots, most_steps, top_wait, unlimited}
 use Rattle.model.specs.declared.Shape.{Shape}
 use Rattle.model.specs.declared.Row.{Row}
 use Rattle.model.specs.declared.Ask.{Ask}
-use Rattle.model.specs.Routine.{Routine, routine, askAt}
+use Rattle.model.specs.Routine.{Routine, routine, ask_at}
 
 -- a list of bytes, as every slice of them is
 abbrev pub Bytes : List ℕ → Type 0
@@ -14,31 +14,31 @@ Bytes s = (j : ℕ) → get_or s j 0 < 256
 pub record Sound (u : Shape) : Type 0 where
   pub some : 1 ≤ u.count
   pub sized : 1 ≤ u.size
-  pub slim : u.size ≤ mostSlots
-  pub bounded : u.delta ≤ topWait
+  pub slim : u.size ≤ most_slots
+  pub bounded : u.delta ≤ top_wait
 
 -- and of the start bytes: one for each process, or more
-abbrev pub startOk : Routine → ℕ → ℕ → Type 0
-startOk (Routine.Lock how) size x = x < size
-startOk Routine.Plain size x = (1 ≤ x) × (x ≤ size)
-startOk Routine.Fast size x = (1 ≤ x) × (x ≤ size)
+abbrev pub start_ok : Routine → ℕ → ℕ → Type 0
+start_ok (Routine.Lock how) size x = x < size
+start_ok Routine.Plain size x = (1 ≤ x) × (x ≤ size)
+start_ok Routine.Fast size x = (1 ≤ x) × (x ≤ size)
 
 pub record Starts (u : Shape) (xs : List ℕ) : Type 0 where
   pub few : u.count ≤ length xs
-  pub each : (j : ℕ) → j < u.count → startOk (routine u) u.size (get_or xs j 0)
+  pub each : (j : ℕ) → j < u.count → start_ok (routine u) u.size (get_or xs j 0)
 
 -- the register, the wait, the flag of an operation are there
 abbrev pub AskFits : Ask → Type 0
 AskFits Ask.Nothing = Unit {0}
-AskFits (Ask.Read c d) = (c.0 < mostSlots) × (d ≢ unlimited → d ≤ topWait)
-AskFits (Ask.Write c v) = c.0 < mostSlots
-AskFits (Ask.Raise v) = v ≤ mostSlots
-AskFits (Ask.Peek v) = v ≤ mostSlots
+AskFits (Ask.Read c d) = (c.0 < most_slots) × (d ≢ unlimited → d ≤ top_wait)
+AskFits (Ask.Write c v) = c.0 < most_slots
+AskFits (Ask.Raise v) = v ≤ most_slots
+AskFits (Ask.Peek v) = v ≤ most_slots
 
 -- a row that one move more leaves in range
 pub record Room (u : Shape) (r : Row) : Type 0 where
-  pub asks : AskFits (askAt r.local.place u.delta r)
-  pub slot : r.local.slot.0 < mostSlots
-  pub scan : r.local.scan ≤ mostSlots
-  pub moves : r.moves < mostSteps
-  pub lates : r.lates < mostSteps
+  pub asks : AskFits (ask_at r.local.place u.delta r)
+  pub slot : r.local.slot.0 < most_slots
+  pub scan : r.local.scan ≤ most_slots
+  pub moves : r.moves < most_steps
+  pub lates : r.lates < most_steps

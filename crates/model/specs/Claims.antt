@@ -1,26 +1,26 @@
 -- The words of the theorems (proofs/Theorems.antt): of which states they speak, and what they say of them. Rows are counted from 0.
 use Rattle.std.specs.Prelude.{ℕ, ◌+◌, ◌*◌, ◌≤◌, ◌<◌, ◌≡◌, ◌≢◌, false, List, length, take, get_or}
 use Rattle.terms.specs.declared.SlotNumber.{SlotNumber}
-use Rattle.terms.specs.Numbers.{processOf}
+use Rattle.terms.specs.Numbers.{process_of}
 use Rattle.terms.specs.Overlay.{overlay}
 use Rattle.records.specs.Record.{byte}
-use Rattle.setups.specs.Setup.{setupRefusal}
+use Rattle.setups.specs.Setup.{setup_refusal}
 use Rattle.model.specs.declared.Place.{Place}
 use Rattle.model.specs.declared.Shape.{Shape}
 use Rattle.model.specs.declared.Row.{Row}
 use Rattle.model.specs.declared.State.{State}
 use Rattle.model.specs.Bounds.{Bytes}
 use Rattle.model.specs.Routine.{routine}
-use Rattle.model.specs.Sizes.{lineWidth}
+use Rattle.model.specs.Sizes.{line_width}
 use Rattle.model.specs.Run.{row_at, shape, rest_of, start_of, reached, run_of, Progress.going}
-use Rattle.model.specs.Counts.{moves_of, latesOf}
-use Rattle.model.specs.Report.{lines, ranOf}
+use Rattle.model.specs.Counts.{moves_of, lates_of}
+use Rattle.model.specs.Report.{lines, ran_of}
 
 -- The state s after the first k records of a trace of up to `most` processes, where the setup and those records were accepted: every point of an
 -- accepted run, its end, and the last state of a run that was refused further on.
 pub record At (most : ℕ) (trace : List ℕ) (k : ℕ) (s : State) : Type 0 where
   pub bytes : Bytes trace
-  pub setup : setupRefusal most trace ≡ 0
+  pub setup : setup_refusal most trace ≡ 0
   pub led : reached most trace k ≡ going s
 
 -- row j is at its section, place 5, on slot c, crashed or not; 01's occupants are those of them that have not crashed
@@ -47,16 +47,16 @@ pub record Within (bound : ℕ) (r : Row) : Type 0 where
   pub decided : r.moves ≡ bound → r.local.place ≡ Place.Decided
 
 -- of the first k records, the moves of row j's process, and those of them whose write was late
-abbrev pub movesIn : List ℕ → ℕ → ℕ → ℕ
-movesIn trace j k = moves_of (rest_of trace) (processOf (j + 1)) k
+abbrev pub moves_in : List ℕ → ℕ → ℕ → ℕ
+moves_in trace j k = moves_of (rest_of trace) (process_of (j + 1)) k
 
-abbrev pub latesIn : ℕ → List ℕ → ℕ → ℕ → ℕ
-latesIn most trace j k = latesOf (shape trace) (start_of most trace) (rest_of trace) (processOf (j + 1)) k
+abbrev pub lates_in : ℕ → List ℕ → ℕ → ℕ → ℕ
+lates_in most trace j k = lates_of (shape trace) (start_of most trace) (rest_of trace) (process_of (j + 1)) k
 
 -- row j, of a run that begins with the state x, after the first k records of these bytes: its moves and late writes are counts of those records
 pub record Counted (u : Shape) (x : State) (rest : List ℕ) (k j : ℕ) (r : Row) : Type 0 where
-  pub moves : r.moves ≡ moves_of rest (processOf (j + 1)) k
-  pub lates : r.lates ≡ latesOf u x rest (processOf (j + 1)) k
+  pub moves : r.moves ≡ moves_of rest (process_of (j + 1)) k
+  pub lates : r.lates ≡ lates_of u x rest (process_of (j + 1)) k
   pub fewer : r.lates ≤ r.moves
   pub within : r.moves ≤ k
 
@@ -68,12 +68,12 @@ cut_at trace k = take (8 + byte 3 trace + k * 8) trace
 pub record CutThere (most : ℕ) (trace old : List ℕ) (k : ℕ) (s : State) : Type 0 where
   pub whole : reached most trace k ≡ going s
   pub cut : run_of most (cut_at trace k) (length old) ≡ going s
-  pub outcome : (ranOf most (cut_at trace k) old).outcome ≡ record { number = 0; at = k }
-  pub report : (ranOf most (cut_at trace k) old).report ≡ overlay (lines (routine (shape trace)) s.rows (byte 3 trace)) old
+  pub outcome : (ran_of most (cut_at trace k) old).outcome ≡ record { number = 0; at = k }
+  pub report : (ran_of most (cut_at trace k) old).report ≡ overlay (lines (routine (shape trace)) s.rows (byte 3 trace)) old
 
 -- THE REPORT of a run: number m of row j (0: place, 1: c or the decided value, 2: moves, 3: late writes)
 abbrev pub shown : ℕ → List ℕ → List ℕ → ℕ → ℕ → ℕ
-shown most trace old j m = get_or (ranOf most trace old).report (lineWidth * j + m) 0
+shown most trace old j m = get_or (ran_of most trace old).report (line_width * j + m) 0
 
 -- kind 2 or 3
 abbrev pub Decision : List ℕ → Type 0

@@ -1,4 +1,4 @@
--- The code of a place, another one for each, and the place with a code. What the report shows of a place is `shownOf` (Report.antt).
+-- The code of a place, another one for each, and the place with a code. What the report shows of a place is `shown_of` (Report.antt).
 use Rattle.std.specs.Prelude.{ℕ, cond, eqb}
 use Rattle.model.specs.declared.Place.{Place}
 
@@ -13,7 +13,7 @@ code_of Place.Flag = 6
 code_of Place.Scan = 7
 code_of Place.Decided = 8
 
--- its inverse (proofs/Places.antt, `place-of-code`)
+-- its inverse (proofs/Places.antt, `place_of_code`)
 abbrev pub place_of : ℕ → Place
 place_of n =
     cond (eqb n 0) Place.Rest

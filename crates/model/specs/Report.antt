@@ -9,30 +9,30 @@ use Rattle.model.specs.Routine.{Routine, routine}
 use Rattle.model.specs.Run.{blank, Progress, Progress.going, Progress.stopped, shape, rest_of, records, run_of}
 
 -- what the report shows of a place
-abbrev pub shownOf : Place → ℕ
-shownOf Place.Rest = 0
-shownOf Place.Look = 1
-shownOf Place.Put = 2
-shownOf Place.Wait = 3
-shownOf Place.Check = 4
-shownOf Place.Critical = 5
-shownOf Place.Flag = 6
-shownOf Place.Scan = 7
-shownOf Place.Decided = 8
+abbrev pub shown_of : Place → ℕ
+shown_of Place.Rest = 0
+shown_of Place.Look = 1
+shown_of Place.Put = 2
+shown_of Place.Wait = 3
+shown_of Place.Check = 4
+shown_of Place.Critical = 5
+shown_of Place.Flag = 6
+shown_of Place.Scan = 7
+shown_of Place.Decided = 8
 
 -- a crashed process shows 9
-abbrev pub shownPlace : Row → ℕ
-shownPlace r = cond r.crashed 9 (shownOf r.local.place)
+abbrev pub shown_place : Row → ℕ
+shown_place r = cond r.crashed 9 (shown_of r.local.place)
 
 -- the second number: c for a lock, else the decided value
-abbrev pub figureOf : Routine → Row → ℕ
-figureOf (Routine.Lock how) r = r.local.slot.0
-figureOf Routine.Plain r = r.local.decided
-figureOf Routine.Fast r = r.local.decided
+abbrev pub figure_of : Routine → Row → ℕ
+figure_of (Routine.Lock how) r = r.local.slot.0
+figure_of Routine.Plain r = r.local.decided
+figure_of Routine.Fast r = r.local.decided
 
 -- a process's line
 unfoldable pub line : Routine → Row → List ℕ
-line κ r = shownPlace r ∷ figureOf κ r ∷ r.moves ∷ r.lates ∷ []
+line κ r = shown_place r ∷ figure_of κ r ∷ r.moves ∷ r.lates ∷ []
 
 -- the lines of the first k rows
 unfoldable pub lines : Routine → List Row → ℕ → List ℕ
@@ -40,23 +40,23 @@ lines κ rows zero = []
 lines κ rows (suc k) = lines κ rows k ++ line κ (get_or rows k blank)
 
 -- the table that was lent: written after an accepted run, as it was after a refused one
-unfoldable pub reportOf : Shape → List ℕ → Progress → List ℕ
-reportOf u old (going s) = overlay (lines (routine u) s.rows u.count) old
-reportOf u old (stopped x j) = old
+unfoldable pub report_of : Shape → List ℕ → Progress → List ℕ
+report_of u old (going s) = overlay (lines (routine u) s.rows u.count) old
+report_of u old (stopped x j) = old
 
 -- 0 and the count of accepted steps, or the number of the refusal and its record
-unfoldable pub outcomeOf : ℕ → Progress → Outcome
-outcomeOf k (going s) = record { number = 0; at = k }
-outcomeOf k (stopped x j) = record { number = x; at = j }
+unfoldable pub outcome_of : ℕ → Progress → Outcome
+outcome_of k (going s) = record { number = 0; at = k }
+outcome_of k (stopped x j) = record { number = x; at = j }
 
 pub record Ran : Type 0 where
   pub outcome : Outcome
   pub report : List ℕ
 
 -- what a run of a trace for up to `most` processes returns, and what it leaves in a report that held `old`
-unfoldable pub ranOf : ℕ → List ℕ → List ℕ → Ran
-ranOf most trace old =
+unfoldable pub ran_of : ℕ → List ℕ → List ℕ → Ran
+ran_of most trace old =
     record {
-      outcome = outcomeOf (records (rest_of trace)) (run_of most trace (length old));
-      report = reportOf (shape trace) old (run_of most trace (length old));
+      outcome = outcome_of (records (rest_of trace)) (run_of most trace (length old));
+      report = report_of (shape trace) old (run_of most trace (length old));
     }

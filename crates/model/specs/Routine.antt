@@ -45,16 +45,16 @@ abbrev pub routine : Shape → Routine
 routine u = routine_of u.kind
 
 -- ASK: the one operation of memory at a place
-abbrev pub askAt : Place → ℕ → Row → Ask
-askAt Place.Rest Δ r = Ask.Nothing
-askAt Place.Look Δ r = Ask.Read r.local.slot Δ
-askAt Place.Put Δ r = Ask.Write r.local.slot r.own
-askAt Place.Wait Δ r = Ask.Nothing
-askAt Place.Check Δ r = Ask.Read r.local.slot unlimited
-askAt Place.Critical Δ r = Ask.Write r.local.slot 0
-askAt Place.Flag Δ r = Ask.Raise r.own
-askAt Place.Scan Δ r = Ask.Peek r.local.scan
-askAt Place.Decided Δ r = Ask.Nothing
+abbrev pub ask_at : Place → ℕ → Row → Ask
+ask_at Place.Rest Δ r = Ask.Nothing
+ask_at Place.Look Δ r = Ask.Read r.local.slot Δ
+ask_at Place.Put Δ r = Ask.Write r.local.slot r.own
+ask_at Place.Wait Δ r = Ask.Nothing
+ask_at Place.Check Δ r = Ask.Read r.local.slot unlimited
+ask_at Place.Critical Δ r = Ask.Write r.local.slot 0
+ask_at Place.Flag Δ r = Ask.Raise r.own
+ask_at Place.Scan Δ r = Ask.Peek r.local.scan
+ask_at Place.Decided Δ r = Ask.Nothing
 
 -- What a process learns: at look that the register is empty, at put that it was late, at check that it reads its own value, at scan that the
 -- flag is clear; elsewhere nothing.
@@ -88,58 +88,58 @@ scans v x = record { place = x.place; slot = x.slot; decided = x.decided; wake =
 -- TAKE. b is what the process learnt, v the value that it read, w the end of a wait that begins now.
 
 -- the slot lock
-abbrev pub lockNext : Slots → Place → Bool → ℕ → Local → Local
-lockNext c Place.Rest b w x = on c.leave (to Place.Look x)  -- fig. 3, the call
-lockNext c Place.Look true w x = to Place.Put x  -- fig. 3, line 2
-lockNext c Place.Look false w x = on c.filled (to Place.Look x)  -- fig. 3, line 2
-lockNext c Place.Put true w x = to Place.Check x  -- fig. 3, line 3
-lockNext c Place.Put false w x = to Place.Wait x  -- fig. 3, line 3
-lockNext c Place.Wait b w x = until w (to Place.Check x)  -- fig. 3, line 3
-lockNext c Place.Check true w x = to Place.Critical x  -- fig. 3, line 4
-lockNext c Place.Check false w x = on c.lost (to Place.Look x)  -- fig. 3, line 4
-lockNext c Place.Critical b w x = to Place.Rest x  -- fig. 3, line 5
-lockNext c Place.Flag b w x = x
-lockNext c Place.Scan b w x = x
-lockNext c Place.Decided b w x = x
+abbrev pub lock_next : Slots → Place → Bool → ℕ → Local → Local
+lock_next c Place.Rest b w x = on c.leave (to Place.Look x)  -- fig. 3, the call
+lock_next c Place.Look true w x = to Place.Put x  -- fig. 3, line 2
+lock_next c Place.Look false w x = on c.filled (to Place.Look x)  -- fig. 3, line 2
+lock_next c Place.Put true w x = to Place.Check x  -- fig. 3, line 3
+lock_next c Place.Put false w x = to Place.Wait x  -- fig. 3, line 3
+lock_next c Place.Wait b w x = until w (to Place.Check x)  -- fig. 3, line 3
+lock_next c Place.Check true w x = to Place.Critical x  -- fig. 3, line 4
+lock_next c Place.Check false w x = on c.lost (to Place.Look x)  -- fig. 3, line 4
+lock_next c Place.Critical b w x = to Place.Rest x  -- fig. 3, line 5
+lock_next c Place.Flag b w x = x
+lock_next c Place.Scan b w x = x
+lock_next c Place.Decided b w x = x
 
 -- the plain decision
-abbrev pub plainNext : Place → Bool → ℕ → ℕ → Local → Local
-plainNext Place.Rest b v w x = x
-plainNext Place.Look true v w x = to Place.Put x  -- fig. 7, line 1
-plainNext Place.Look false v w x = to Place.Wait x  -- fig. 7, line 1
-plainNext Place.Put b v w x = to Place.Look x  -- fig. 7, line 1
-plainNext Place.Wait b v w x = until w (to Place.Check x)  -- fig. 7, line 2
-plainNext Place.Check b v w x = decides v (to Place.Decided x)  -- fig. 7, line 3
-plainNext Place.Critical b v w x = x
-plainNext Place.Flag b v w x = x
-plainNext Place.Scan b v w x = x
-plainNext Place.Decided b v w x = x
+abbrev pub plain_next : Place → Bool → ℕ → ℕ → Local → Local
+plain_next Place.Rest b v w x = x
+plain_next Place.Look true v w x = to Place.Put x  -- fig. 7, line 1
+plain_next Place.Look false v w x = to Place.Wait x  -- fig. 7, line 1
+plain_next Place.Put b v w x = to Place.Look x  -- fig. 7, line 1
+plain_next Place.Wait b v w x = until w (to Place.Check x)  -- fig. 7, line 2
+plain_next Place.Check b v w x = decides v (to Place.Decided x)  -- fig. 7, line 3
+plain_next Place.Critical b v w x = x
+plain_next Place.Flag b v w x = x
+plain_next Place.Scan b v w x = x
+plain_next Place.Decided b v w x = x
 
 -- the scan goes on at value y, or ends past the last one; from value y on it skips the process's own
-abbrev pub scanAt : ℕ → ℕ → Local → Local
-scanAt size y x = cond (leb y size) (scans y (to Place.Scan x)) (to Place.Check x)
+abbrev pub scan_at : ℕ → ℕ → Local → Local
+scan_at size y x = cond (leb y size) (scans y (to Place.Scan x)) (to Place.Check x)
 
-abbrev pub scanFrom : ℕ → ℕ → ℕ → Local → Local
-scanFrom size own y x = scanAt size (cond (eqb y own) (y + 1) y) x
+abbrev pub scan_from : ℕ → ℕ → ℕ → Local → Local
+scan_from size own y x = scan_at size (cond (eqb y own) (y + 1) y) x
 
 -- the fast decision
-abbrev pub fastNext : ℕ → ℕ → Place → Bool → ℕ → ℕ → Local → Local
-fastNext size own Place.Rest b v w x = x
-fastNext size own Place.Look true v w x = to Place.Put x  -- fig. 8, line 2
-fastNext size own Place.Look false v w x = scanFrom size own 1 x  -- fig. 8, line 2
-fastNext size own Place.Put b v w x = to Place.Look x  -- fig. 8, line 2
-fastNext size own Place.Wait b v w x = until w (to Place.Check x)  -- fig. 8, line 3
-fastNext size own Place.Check b v w x = decides v (to Place.Decided x)  -- fig. 8, line 4
-fastNext size own Place.Critical b v w x = x
-fastNext size own Place.Flag b v w x = to Place.Look x  -- fig. 8, line 1
-fastNext size own Place.Scan true v w x = scanFrom size own (x.scan + 1) x  -- fig. 8, line 3
-fastNext size own Place.Scan false v w x = to Place.Wait x  -- fig. 8, line 3
-fastNext size own Place.Decided b v w x = x
+abbrev pub fast_next : ℕ → ℕ → Place → Bool → ℕ → ℕ → Local → Local
+fast_next size own Place.Rest b v w x = x
+fast_next size own Place.Look true v w x = to Place.Put x  -- fig. 8, line 2
+fast_next size own Place.Look false v w x = scan_from size own 1 x  -- fig. 8, line 2
+fast_next size own Place.Put b v w x = to Place.Look x  -- fig. 8, line 2
+fast_next size own Place.Wait b v w x = until w (to Place.Check x)  -- fig. 8, line 3
+fast_next size own Place.Check b v w x = decides v (to Place.Decided x)  -- fig. 8, line 4
+fast_next size own Place.Critical b v w x = x
+fast_next size own Place.Flag b v w x = to Place.Look x  -- fig. 8, line 1
+fast_next size own Place.Scan true v w x = scan_from size own (x.scan + 1) x  -- fig. 8, line 3
+fast_next size own Place.Scan false v w x = to Place.Wait x  -- fig. 8, line 3
+fast_next size own Place.Decided b v w x = x
 
 abbrev pub next_of : Routine → Shape → ℕ → Place → Bool → ℕ → ℕ → Local → Local
-next_of (Routine.Lock how) u own p b v w x = lockNext (slots_of how u x) p b w x
-next_of Routine.Plain u own p b v w x = plainNext p b v w x
-next_of Routine.Fast u own p b v w x = fastNext u.size own p b v w x
+next_of (Routine.Lock how) u own p b v w x = lock_next (slots_of how u x) p b w x
+next_of Routine.Plain u own p b v w x = plain_next p b v w x
+next_of Routine.Fast u own p b v w x = fast_next u.size own p b v w x
 
 -- the row after a move: its next local part, one move more, one late write more where the write was late
 abbrev pub counted : Bool → Local → Row → Row
@@ -147,8 +147,8 @@ counted late x r =
     record { local = x; own = r.own; moves = r.moves + 1; lates = r.lates + cond late 1 0; crashed = r.crashed }
 
 -- the row after a move at place p with the answer a, where a wait that begins now ends at w
-abbrev pub rowAfter : Shape → Place → ℕ → Row → Reply → Row
-rowAfter u p w r a = counted a.late (next_of (routine u) u r.own p (told p r a) a.value w r.local) r
+abbrev pub row_after : Shape → Place → ℕ → Row → Reply → Row
+row_after u p w r a = counted a.late (next_of (routine u) u r.own p (told p r a) a.value w r.local) r
 
 abbrev pub crash : Row → Row
 crash r = record { local = r.local; own = r.own; moves = r.moves; lates = r.lates; crashed = true }
@@ -170,13 +170,13 @@ begin (Routine.Lock how) j x = unmoved Place.Rest (slot_of x) (j + 1)
 begin Routine.Plain j x = unmoved Place.Look (slot_of 0) x
 begin Routine.Fast j x = unmoved Place.Flag (slot_of 0) x
 
-abbrev pub isDecided : Place → Bool
-isDecided Place.Rest = false
-isDecided Place.Look = false
-isDecided Place.Put = false
-isDecided Place.Wait = false
-isDecided Place.Check = false
-isDecided Place.Critical = false
-isDecided Place.Flag = false
-isDecided Place.Scan = false
-isDecided Place.Decided = true
+abbrev pub is_decided : Place → Bool
+is_decided Place.Rest = false
+is_decided Place.Look = false
+is_decided Place.Put = false
+is_decided Place.Wait = false
+is_decided Place.Check = false
+is_decided Place.Critical = false
+is_decided Place.Flag = false
+is_decided Place.Scan = false
+is_decided Place.Decided = true

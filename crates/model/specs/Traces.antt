@@ -74,32 +74,32 @@ abbrev pub p11 : List ℕ
 p11 = fast 2 1 2 (1 moves 0 ∷ 2 moves 0 ∷ 1 moves 0 ∷ 1 moves 0 ∷ 1 moves 0 ∷ 1 moves 0 ∷ 1 moves 0 ∷ 1 moves 3 ∷ [])
 
 -- P5 with 1@2 put before 2@2 (01, "Slips that look right")
-abbrev pub waitTooShort : List ℕ
-waitTooShort = plain (beginning (1 moves 2 ∷ 2 moves 2 ∷ []))
+abbrev pub wait_too_short : List ℕ
+wait_too_short = plain (beginning (1 moves 2 ∷ 2 moves 2 ∷ []))
 
 -- nothing to scan
-abbrev pub oneValue : List ℕ
-oneValue = fast 1 1 1 (1 moves 0 ∷ 1 moves 0 ∷ 1 moves 0 ∷ 1 moves 0 ∷ 1 moves 0 ∷ [])
+abbrev pub one_value : List ℕ
+one_value = fast 1 1 1 (1 moves 0 ∷ 1 moves 0 ∷ 1 moves 0 ∷ 1 moves 0 ∷ 1 moves 0 ∷ [])
 
 -- a late write of the lock, on slot 1
-abbrev pub lateLock : List ℕ
-lateLock = lock 2 1 0 (1 moves 0 ∷ 1 moves 0 ∷ 1 moves 3 ∷ 1 moves 3 ∷ [])
+abbrev pub late_lock : List ℕ
+late_lock = lock 2 1 0 (1 moves 0 ∷ 1 moves 0 ∷ 1 moves 3 ∷ 1 moves 3 ∷ [])
 
 -- one late write of the plain decision
-abbrev pub lateOnce : List ℕ
-lateOnce = plain (1 moves 0 ∷ 1 moves 3 ∷ 1 moves 3 ∷ 1 moves 3 ∷ 1 moves 3 ∷ 1 moves 3 ∷ 1 moves 6 ∷ [])
+abbrev pub late_once : List ℕ
+late_once = plain (1 moves 0 ∷ 1 moves 3 ∷ 1 moves 3 ∷ 1 moves 3 ∷ 1 moves 3 ∷ 1 moves 3 ∷ 1 moves 6 ∷ [])
 
 -- a crash of one who has decided, before the other decides; and of one who waits
-abbrev pub crashesDecided : List ℕ
-crashesDecided =
+abbrev pub crashes_decided : List ℕ
+crashes_decided =
     plain (1 moves 0 ∷ 1 moves 1 ∷ 1 moves 1 ∷ 1 moves 2 ∷ 1 moves 5 ∷ 1 crashes 5 ∷ 2 moves 5 ∷ 2 moves 5 ∷ 2 moves 8 ∷ [])
 
-abbrev pub crashesWaiting : List ℕ
-crashesWaiting = plain (1 moves 0 ∷ 1 moves 1 ∷ 1 moves 1 ∷ 1 moves 2 ∷ 1 crashes 3 ∷ [])
+abbrev pub crashes_waiting : List ℕ
+crashes_waiting = plain (1 moves 0 ∷ 1 moves 1 ∷ 1 moves 1 ∷ 1 moves 2 ∷ 1 crashes 3 ∷ [])
 
 -- a crash inside, and the move out
-abbrev pub crashesInside : List ℕ
-crashesInside = lock 1 0 0 (enters (1 crashes 4 ∷ []))
+abbrev pub crashes_inside : List ℕ
+crashes_inside = lock 1 0 0 (enters (1 crashes 4 ∷ []))
 
 abbrev pub leaves : List ℕ
 leaves = lock 1 0 0 (enters (1 moves 9 ∷ 2 moves 9 ∷ 2 moves 9 ∷ []))
@@ -167,21 +167,21 @@ cases =
     ∷ refused [] 1 0
     ∷ stands (plain []) 0 (shows 1 0 0 0) (shows 1 0 0 0) (hold 0 0)
     -- the wait ends after t + Δ, not at it
-    ∷ refused waitTooShort 16 6
+    ∷ refused wait_too_short 16 6
     -- with b = 1 look goes to check
-    ∷ stands oneValue 4 (shows 4 0 4 0) (shows 6 0 0 0) (hold 1 0)
-    ∷ stands oneValue 5 (shows 8 1 5 0) (shows 6 0 0 0) (hold 1 0)
+    ∷ stands one_value 4 (shows 4 0 4 0) (shows 6 0 0 0) (hold 1 0)
+    ∷ stands one_value 5 (shows 8 1 5 0) (shows 6 0 0 0) (hold 1 0)
     -- a late write of the lock goes to check, and then to look with the same c
-    ∷ stands lateLock 3 (shows 4 1 3 1) (shows 0 0 0 0) (hold 0 0)
-    ∷ stands lateLock 4 (shows 1 1 4 1) (shows 0 0 0 0) (hold 0 0)
+    ∷ stands late_lock 3 (shows 4 1 3 1) (shows 0 0 0 0) (hold 0 0)
+    ∷ stands late_lock 4 (shows 1 1 4 1) (shows 0 0 0 0) (hold 0 0)
     -- one late write and seven moves: the plain decision's bound
-    ∷ stands lateOnce 7 (shows 8 1 7 1) (shows 1 0 0 0) (hold 1 0)
+    ∷ stands late_once 7 (shows 8 1 7 1) (shows 1 0 0 0) (hold 1 0)
     -- a crash of the decided and of the waiting: place 9, and the other three figures stay
-    ∷ stands crashesDecided 6 (shows 9 1 5 0) (shows 1 0 0 0) (hold 1 0)
-    ∷ stands crashesDecided 9 (shows 9 1 5 0) (shows 8 1 3 0) (hold 1 0)
-    ∷ stands crashesWaiting 5 (shows 9 0 4 0) (shows 1 0 0 0) (hold 1 0)
+    ∷ stands crashes_decided 6 (shows 9 1 5 0) (shows 1 0 0 0) (hold 1 0)
+    ∷ stands crashes_decided 9 (shows 9 1 5 0) (shows 8 1 3 0) (hold 1 0)
+    ∷ stands crashes_waiting 5 (shows 9 0 4 0) (shows 1 0 0 0) (hold 1 0)
     -- a crash of one inside leaves the register; who leaves empties it
-    ∷ stands crashesInside 6 (shows 9 0 5 0) (shows 0 0 0 0) (hold 1 0)
+    ∷ stands crashes_inside 6 (shows 9 0 5 0) (shows 0 0 0 0) (hold 1 0)
     ∷ stands leaves 6 (shows 0 0 6 0) (shows 0 0 0 0) (hold 0 0)
     ∷ stands leaves 8 (shows 0 0 6 0) (shows 2 0 2 0) (hold 0 0)
     -- a step of the dead, a move of the decided, a tick that goes back

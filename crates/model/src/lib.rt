@@ -1,8 +1,8 @@
 // The types of the bench. What they mean stands in specs/: Routine.antt (one process), Run.antt (one record, a trace), Report.antt.
 ghost use Rattle.std.specs.Prelude.{◌≡◌, ◌<◌};
-ghost use Rattle.terms.specs.Limits.{mostProcesses};
+ghost use Rattle.terms.specs.Limits.{most_processes};
 ghost use Rattle.model.specs.Routine.{routine_of};
-ghost use Rattle.model.specs.Run.{startRows};
+ghost use Rattle.model.specs.Run.{start_rows};
 
 use bank::Bank;
 use kinds::Kind;
@@ -127,7 +127,7 @@ impl Row {
 
     // The row at index j, of a process with start byte x.
     fn begin(kind: Kind, j: u32, x: u8) -> Self
-        requires { j < mostProcesses }
+        requires { j < most_processes }
         ensures { result ≡ Rattle.model.specs.Routine.begin (routine_of kind) j x }
     {
         let start = x as u32;
@@ -142,7 +142,7 @@ impl Row {
 impl State {
     // The rows at the start: where the kind begins, and blank past the last process.
     fn start_rows(shape: Shape, starts: [u8; ROWS]) -> [Row; ROWS]
-        ensures { result ≡ startRows shape 0 starts }
+        ensures { result ≡ start_rows shape 0 starts }
     {
         let kind = shape.kind;
         let mut rows = [Row::unmoved(Place::Rest, SlotNumber(0), 0); ROWS];

@@ -11,18 +11,18 @@ use lib.ListN.{length, get_or}
 use Rattle.terms.specs.Little.{AllBytes}
 use Rattle.terms.specs.Overlay.{overlay}
 use Rattle.terms.specs.Refusal.{any_from}
-use Rattle.terms.proofs.RefusalLaws.{both_false, both_true, if-refused}
+use Rattle.terms.proofs.RefusalLaws.{both_false, both_true, if_refused}
 use Rattle.records.specs.Record.{byte, marked, Wrote}
 use Rattle.records.specs.declared.Written.{Written}
 
 -- a list that a mark stands before has its two bytes, and the other way round
-pub marked-said : (mark s : List ℕ) → marked mark s ≡ true → (byte 0 s ≡ byte 0 mark) × (byte 1 s ≡ byte 1 mark)
-marked-said mark s h =
+pub marked_said : (mark s : List ℕ) → marked mark s ≡ true → (byte 0 s ≡ byte 0 mark) × (byte 1 s ≡ byte 1 mark)
+marked_said mark s h =
     let both = both_true _ _ h in
     (eqb-true _ _ both.0, eqb-true _ _ both.1)
 
-pub said-marked : (mark s : List ℕ) → byte 0 s ≡ byte 0 mark → byte 1 s ≡ byte 1 mark → marked mark s ≡ true
-said-marked mark s p q = simp (eq-eqb _ _ p, eq-eqb _ _ q)
+pub said_marked : (mark s : List ℕ) → byte 0 s ≡ byte 0 mark → byte 1 s ≡ byte 1 mark → marked mark s ≡ true
+said_marked mark s p q = simp (eq-eqb _ _ p, eq-eqb _ _ q)
 
 -- each byte of a list of bytes is one, and the other way round
 pub byte_small : (s : List ℕ) → AllBytes s → (i : ℕ) → byte i s < 256
@@ -35,38 +35,38 @@ small_bytes [] h = tt
 small_bytes (b ∷ bs) h = (h 0, small_bytes bs (λ i. h (suc i)))
 
 -- of a list with no bad element no element is bad at its index, and the other way round
-pub none-bad : (i : ℕ) (bad : ℕ → ℕ → Bool) (xs : List ℕ) → any_from i bad xs ≡ false → (j : ℕ) → j < length xs → bad (i + j) (get_or xs j 0) ≡ false
-none-bad i bad [] h j below = absurd (omega arith)
-none-bad i bad (x ∷ xs) h zero below = rw (add-zero i) (both_false (bad i x) (any_from (suc i) bad xs) h).0
-none-bad i bad (x ∷ xs) h (suc j) below =
+pub none_bad : (i : ℕ) (bad : ℕ → ℕ → Bool) (xs : List ℕ) → any_from i bad xs ≡ false → (j : ℕ) → j < length xs → bad (i + j) (get_or xs j 0) ≡ false
+none_bad i bad [] h j below = absurd (omega arith)
+none_bad i bad (x ∷ xs) h zero below = rw (add-zero i) (both_false (bad i x) (any_from (suc i) bad xs) h).0
+none_bad i bad (x ∷ xs) h (suc j) below =
     let next : i + suc j ≡ suc i + j = omega arith in
-    rw next (none-bad (suc i) bad xs (both_false (bad i x) (any_from (suc i) bad xs) h).1 j (omega arith))
+    rw next (none_bad (suc i) bad xs (both_false (bad i x) (any_from (suc i) bad xs) h).1 j (omega arith))
 
-pub all-good : (i : ℕ) (bad : ℕ → ℕ → Bool) (xs : List ℕ) → ((j : ℕ) → j < length xs → bad (i + j) (get_or xs j 0) ≡ false) → any_from i bad xs ≡ false
-all-good i bad [] h = refl
-all-good i bad (x ∷ xs) h =
+pub all_good : (i : ℕ) (bad : ℕ → ℕ → Bool) (xs : List ℕ) → ((j : ℕ) → j < length xs → bad (i + j) (get_or xs j 0) ≡ false) → any_from i bad xs ≡ false
+all_good i bad [] h = refl
+all_good i bad (x ∷ xs) h =
     let first : bad i x ≡ false = rw (add-zero i) at (h 0 (omega arith)) in
     let next : (j : ℕ) → suc i + j ≡ i + suc j = λ j. omega arith in
-    rw (first, all-good (suc i) bad xs (λ j below. rw (next j) (h (suc j) (omega arith))))
+    rw (first, all_good (suc i) bad xs (λ j below. rw (next j) (h (suc j) (omega arith))))
 
 module _ (refusal : ℕ) (rec before : List ℕ) (r : Written) (after : List ℕ) where
   -- a writer's refusal with k, and its acceptance
-  pub wrote-refused : (k : ℕ) → refusal ≡ k → (k ≡ 0 → ⊥) → r ≡ record { refusal = k; len = 0 } → after ≡ before → Wrote refusal rec before r after
-  wrote-refused k e h a b = record { answer = a ∙ simp (e, if-refused k h); buffer = b ∙ simp (e, if-refused k h) }
+  pub wrote_refused : (k : ℕ) → refusal ≡ k → (k ≡ 0 → ⊥) → r ≡ record { refusal = k; len = 0 } → after ≡ before → Wrote refusal rec before r after
+  wrote_refused k e h a b = record { answer = a ∙ simp (e, if_refused k h); buffer = b ∙ simp (e, if_refused k h) }
 
-  pub wrote-accepted : (n : ℕ) → refusal ≡ 0 → r ≡ record { refusal = 0; len = n } → n ≡ length rec → after ≡ overlay rec before
+  pub wrote_accepted : (n : ℕ) → refusal ≡ 0 → r ≡ record { refusal = 0; len = n } → n ≡ length rec → after ≡ overlay rec before
       → Wrote refusal rec before r after
-  wrote-accepted n e a l b = record { answer = a ∙ simp (e, l); buffer = b ∙ simp e }
+  wrote_accepted n e a l b = record { answer = a ∙ simp (e, l); buffer = b ∙ simp e }
 
   -- what a promise says where its table accepts, where it refuses, and where the answer's number is 0
   module _ (w : Wrote refusal rec before r after) where
-    pub wrote-whole : refusal ≡ 0 → (r ≡ record { refusal = 0; len = length rec }) × (after ≡ overlay rec before)
-    wrote-whole e = (w.answer ∙ simp e, w.buffer ∙ simp e)
+    pub wrote_whole : refusal ≡ 0 → (r ≡ record { refusal = 0; len = length rec }) × (after ≡ overlay rec before)
+    wrote_whole e = (w.answer ∙ simp e, w.buffer ∙ simp e)
 
     pub wrote_nothing : (refusal ≡ 0 → ⊥) → (r ≡ record { refusal = refusal; len = 0 }) × (after ≡ before)
-    wrote_nothing h = (w.answer ∙ simp (if-refused refusal h), w.buffer ∙ simp (if-refused refusal h))
+    wrote_nothing h = (w.answer ∙ simp (if_refused refusal h), w.buffer ∙ simp (if_refused refusal h))
 
-    pub wrote-said : r.refusal ≡ 0 → (refusal ≡ 0) × (after ≡ overlay rec before)
-    wrote-said ok =
+    pub wrote_said : r.refusal ≡ 0 → (refusal ≡ 0) × (after ≡ overlay rec before)
+    wrote_said ok =
         let e : refusal ≡ 0 = sym (ap (λ (x : Written). x.refusal) w.answer) ∙ ok in
-        (e, (wrote-whole e).1)
+        (e, (wrote_whole e).1)

@@ -1,6 +1,6 @@
 -- What both records of a trace have: bytes at their places, and a mark of two bytes before (01, "The trace").
 use Rattle.std.specs.Prelude.{Bool, ◌&&◌, ◌≡◌, List, ℕ, length, get_or, eqb}
-use Rattle.terms.specs.Refusal.{ifAccepted}
+use Rattle.terms.specs.Refusal.{if_accepted}
 use Rattle.terms.specs.Overlay.{overlay}
 use Rattle.records.specs.declared.Written.{Written}
 
@@ -14,5 +14,5 @@ marked mark s = eqb (byte 0 s) (byte 0 mark) && eqb (byte 1 s) (byte 1 mark)
 -- What a writer answers and leaves: an accepted one the record's length and its bytes over the buffer's first, a refused one 0 and the buffer
 -- as it was.
 pub record Wrote (refusal : ℕ) (rec before : List ℕ) (r : Written) (after : List ℕ) : Type 0 where
-  pub answer : r ≡ record { refusal = refusal; len = ifAccepted refusal (length rec) 0 }
-  pub buffer : after ≡ ifAccepted refusal (overlay rec before) before
+  pub answer : r ≡ record { refusal = refusal; len = if_accepted refusal (length rec) 0 }
+  pub buffer : after ≡ if_accepted refusal (overlay rec before) before

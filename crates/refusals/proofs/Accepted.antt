@@ -8,60 +8,60 @@ use lib.Dec.{eqb, leb, ltb}
 use borrow.Author.Tests.{le-ltb, lt-leb, ltb-true, ltb-false, leb-false, eqb-true, eqb-false}
 use Rattle.terms.specs.declared.ProcessNumber.{ProcessNumber}
 use Rattle.terms.specs.declared.SlotNumber.{SlotNumber}
-use Rattle.terms.specs.Limits.{mostProcesses, mostSlots, topTick, topWait, unlimited}
+use Rattle.terms.specs.Limits.{most_processes, most_slots, top_tick, top_wait, unlimited}
 use Rattle.terms.specs.Ranges.{IsPair, IsTick, IsWait}
 use Rattle.terms.specs.Refusal.{refuse, ◌then◌, outside}
-use Rattle.terms.proofs.RefusalLaws.{passed, refuse-false, both_false, inside, not-outside}
-use Rattle.refusals.specs.Refusals.{callRefusal, readRefusal}
+use Rattle.terms.proofs.RefusalLaws.{passed, refuse-false, both_false, inside, not_outside}
+use Rattle.refusals.specs.Refusals.{call_refusal, read_refusal}
 
-pub short-is-a-wait : (d : ℕ) → d ≤ topWait → IsWait d
-short-is-a-wait d h = omega arith
+pub short_is_a_wait : (d : ℕ) → d ≤ top_wait → IsWait d
+short_is_a_wait d h = omega arith
 
-pub unlimited-is-a-wait : IsWait unlimited
-unlimited-is-a-wait = omega arith
+pub unlimited_is_a_wait : IsWait unlimited
+unlimited_is_a_wait = omega arith
 
 module _ (last : ℕ) (i : ProcessNumber) (c : SlotNumber) (t : ℕ) where
-  pub accepted-good : callRefusal last i c t ≡ 0 → IsPair i c × (IsTick t × (last ≤ t))
-  unfolding callRefusal
-  accepted-good h =
-      let third = passed 12 (refuse 11 (outside 1 mostProcesses i.0) then refuse 17 (leb mostSlots c.0)) (ltb topTick t || ltb t last) h in
-      let second = passed 16 (refuse 11 (outside 1 mostProcesses i.0)) (leb mostSlots c.0) third.0 in
-      let process = not-outside 1 mostProcesses i.0 (refuse-false 10 (outside 1 mostProcesses i.0) second.0) in
-      let tick = both_false (ltb topTick t) (ltb t last) third.1 in (
-        record { least = process.0; most = process.1; slot = leb-false mostSlots c.0 second.1 },
-        (record { top = ltb-false topTick t tick.0 }, ltb-false t last tick.1),
+  pub accepted_good : call_refusal last i c t ≡ 0 → IsPair i c × (IsTick t × (last ≤ t))
+  unfolding call_refusal
+  accepted_good h =
+      let third = passed 12 (refuse 11 (outside 1 most_processes i.0) then refuse 17 (leb most_slots c.0)) (ltb top_tick t || ltb t last) h in
+      let second = passed 16 (refuse 11 (outside 1 most_processes i.0)) (leb most_slots c.0) third.0 in
+      let process = not_outside 1 most_processes i.0 (refuse-false 10 (outside 1 most_processes i.0) second.0) in
+      let tick = both_false (ltb top_tick t) (ltb t last) third.1 in (
+        record { least = process.0; most = process.1; slot = leb-false most_slots c.0 second.1 },
+        (record { top = ltb-false top_tick t tick.0 }, ltb-false t last tick.1),
       )
 
-  pub good-accepted : IsPair i c → IsTick t → last ≤ t → callRefusal last i c t ≡ 0
-  unfolding callRefusal
-  good-accepted p k o =
-      rw (inside 1 mostProcesses i.0 p.least p.most, lt-leb mostSlots c.0 p.slot, le-ltb topTick t k.top, le-ltb t last o)
+  pub good_accepted : IsPair i c → IsTick t → last ≤ t → call_refusal last i c t ≡ 0
+  unfolding call_refusal
+  good_accepted p k o =
+      rw (inside 1 most_processes i.0 p.least p.most, lt-leb most_slots c.0 p.slot, le-ltb top_tick t k.top, le-ltb t last o)
 
   -- d's part of a read's table
-  wait-good : (d : ℕ) → (ltb topWait d && not (eqb d unlimited)) ≡ false → IsWait d
-  wait-good d = go (ltb topWait d) (eqb d unlimited) refl refl
+  wait_good : (d : ℕ) → (ltb top_wait d && not (eqb d unlimited)) ≡ false → IsWait d
+  wait_good d = go (ltb top_wait d) (eqb d unlimited) refl refl
     where
-      go : (a b : Bool) → ltb topWait d ≡ a → eqb d unlimited ≡ b → (a && not b) ≡ false → IsWait d
-      go false b p q h = record { limited = λ o. ltb-false topWait d p }
+      go : (a b : Bool) → ltb top_wait d ≡ a → eqb d unlimited ≡ b → (a && not b) ≡ false → IsWait d
+      go false b p q h = record { limited = λ o. ltb-false top_wait d p }
       go true true p q h = record { limited = λ o. absurd (o (eqb-true d unlimited q)) }
       go true false p q h = absurd (true≢false h)
 
-  good-wait : (d : ℕ) → IsWait d → (ltb topWait d && not (eqb d unlimited)) ≡ false
-  good-wait d w = go (ltb topWait d) (eqb d unlimited) refl refl
+  good_wait : (d : ℕ) → IsWait d → (ltb top_wait d && not (eqb d unlimited)) ≡ false
+  good_wait d w = go (ltb top_wait d) (eqb d unlimited) refl refl
     where
-      go : (a b : Bool) → ltb topWait d ≡ a → eqb d unlimited ≡ b → (a && not b) ≡ false
+      go : (a b : Bool) → ltb top_wait d ≡ a → eqb d unlimited ≡ b → (a && not b) ≡ false
       go false b p q = refl
       go true true p q = refl
       go true false p q =
-          let short : d ≤ topWait = w.limited (eqb-false d unlimited q) in
-          absurd (omega (arith, ltb-true topWait d p))
+          let short : d ≤ top_wait = w.limited (eqb-false d unlimited q) in
+          absurd (omega (arith, ltb-true top_wait d p))
 
-  pub read-accepted-good : (d : ℕ) → readRefusal last i c t d ≡ 0 → (callRefusal last i c t ≡ 0) × IsWait d
-  unfolding readRefusal
-  read-accepted-good d h =
-      let last_Line = passed 17 (callRefusal last i c t) (ltb topWait d && not (eqb d unlimited)) h in
-      (last_Line.0, wait-good d last_Line.1)
+  pub read_accepted_good : (d : ℕ) → read_refusal last i c t d ≡ 0 → (call_refusal last i c t ≡ 0) × IsWait d
+  unfolding read_refusal
+  read_accepted_good d h =
+      let last_Line = passed 17 (call_refusal last i c t) (ltb top_wait d && not (eqb d unlimited)) h in
+      (last_Line.0, wait_good d last_Line.1)
 
-  pub good-read-accepted : (d : ℕ) → callRefusal last i c t ≡ 0 → IsWait d → readRefusal last i c t d ≡ 0
-  unfolding readRefusal
-  good-read-accepted d h w = rw (h, good-wait d w)
+  pub good_read_accepted : (d : ℕ) → call_refusal last i c t ≡ 0 → IsWait d → read_refusal last i c t d ≡ 0
+  unfolding read_refusal
+  good_read_accepted d h w = rw (h, good_wait d w)

@@ -2,25 +2,25 @@
 use Rattle.std.specs.Prelude.{ℕ, not, ◌||◌, ◌&&◌, eqb, leb, ltb}
 use Rattle.terms.specs.declared.ProcessNumber.{ProcessNumber}
 use Rattle.terms.specs.declared.SlotNumber.{SlotNumber}
-use Rattle.terms.specs.Limits.{mostProcesses, mostSlots, topTick, topWait, unlimited}
+use Rattle.terms.specs.Limits.{most_processes, most_slots, top_tick, top_wait, unlimited}
 use Rattle.terms.specs.Refusal.{refuse, ◌then◌, outside}
 
-abbrev pub processRefusal : ProcessNumber → ℕ
-processRefusal i = refuse 11 (outside 1 mostProcesses i.0)
+abbrev pub process_refusal : ProcessNumber → ℕ
+process_refusal i = refuse 11 (outside 1 most_processes i.0)
 
-abbrev pub slotRefusal : SlotNumber → ℕ
-slotRefusal c = refuse 17 (leb mostSlots c.0)
+abbrev pub slot_refusal : SlotNumber → ℕ
+slot_refusal c = refuse 17 (leb most_slots c.0)
 
-abbrev pub tickRefusal : ℕ → ℕ → ℕ
-tickRefusal last t = refuse 13 (ltb topTick t || ltb t last)
+abbrev pub tick_refusal : ℕ → ℕ → ℕ
+tick_refusal last t = refuse 13 (ltb top_tick t || ltb t last)
 
-abbrev pub waitRefusal : ℕ → ℕ
-waitRefusal d = refuse 18 (ltb topWait d && not (eqb d unlimited))
+abbrev pub wait_refusal : ℕ → ℕ
+wait_refusal d = refuse 18 (ltb top_wait d && not (eqb d unlimited))
 
 -- what a read and a write are refused for alike: 11, 17, 13
-unfoldable pub callRefusal : ℕ → ProcessNumber → SlotNumber → ℕ → ℕ
-callRefusal last i c t = processRefusal i then slotRefusal c then tickRefusal last t
+unfoldable pub call_refusal : ℕ → ProcessNumber → SlotNumber → ℕ → ℕ
+call_refusal last i c t = process_refusal i then slot_refusal c then tick_refusal last t
 
 -- and 18
-unfoldable pub readRefusal : ℕ → ProcessNumber → SlotNumber → ℕ → ℕ → ℕ
-readRefusal last i c t d = callRefusal last i c t then waitRefusal d
+unfoldable pub read_refusal : ℕ → ProcessNumber → SlotNumber → ℕ → ℕ → ℕ
+read_refusal last i c t d = call_refusal last i c t then wait_refusal d

@@ -1,11 +1,11 @@
 // What a call of the bank is refused for, by its numbers alone: 11, 17, 13 and, for a read, 18, in the order of document 01.
 ghost use Rattle.std.specs.Prelude.{◌≡◌};
-ghost use Rattle.refusals.specs.Refusals.{processRefusal, slotRefusal, tickRefusal, waitRefusal, callRefusal, readRefusal};
+ghost use Rattle.refusals.specs.Refusals.{process_refusal, slot_refusal, tick_refusal, wait_refusal, call_refusal, read_refusal};
 
 use terms::{ProcessNumber, SlotNumber, Trace, Wait};
 
 fn process_refusal(i: ProcessNumber) -> u32
-    ensures { result ≡ processRefusal i }
+    ensures { result ≡ process_refusal i }
 {
     if i.0 < 1 {
         return 11;
@@ -17,7 +17,7 @@ fn process_refusal(i: ProcessNumber) -> u32
 }
 
 fn slot_refusal(c: SlotNumber) -> u32
-    ensures { result ≡ slotRefusal c }
+    ensures { result ≡ slot_refusal c }
 {
     if Trace::SLOTS <= c.0 {
         return 17;
@@ -26,7 +26,7 @@ fn slot_refusal(c: SlotNumber) -> u32
 }
 
 fn tick_refusal(last: u32, t: u32) -> u32
-    ensures { result ≡ tickRefusal last t }
+    ensures { result ≡ tick_refusal last t }
 {
     if Trace::TOP_TICK < t {
         return 13;
@@ -38,7 +38,7 @@ fn tick_refusal(last: u32, t: u32) -> u32
 }
 
 fn wait_refusal(d: u32) -> u32
-    ensures { result ≡ waitRefusal d }
+    ensures { result ≡ wait_refusal d }
 {
     if d <= Wait::TOP {
         return 0;
@@ -51,7 +51,7 @@ fn wait_refusal(d: u32) -> u32
 
 // What a read and a write are refused for alike, 0 for nothing: 11, 17, 13.
 pub fn call_refusal(last: u32, i: ProcessNumber, c: SlotNumber, t: u32) -> u32
-    ensures { result ≡ callRefusal last i c t }
+    ensures { result ≡ call_refusal last i c t }
 {
     let process = process_refusal(i);
     if process != 0 {
@@ -66,7 +66,7 @@ pub fn call_refusal(last: u32, i: ProcessNumber, c: SlotNumber, t: u32) -> u32
 
 // A read is refused for its wait as well: 18.
 pub fn read_refusal(last: u32, i: ProcessNumber, c: SlotNumber, t: u32, d: u32) -> u32
-    ensures { result ≡ readRefusal last i c t d }
+    ensures { result ≡ read_refusal last i c t d }
 {
     let call = call_refusal(last, i, c, t);
     if call != 0 {

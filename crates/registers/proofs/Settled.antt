@@ -6,10 +6,10 @@ use mathlib.Core.Bool.{Bool}
 use mathlib.Core.List.{List}
 use Rattle.terms.proofs.Settles.{Settles}
 use Rattle.registers.specs.Deadlines.{Seen, Stored}
-use Rattle.registers.proofs.read_granted.Kinds as read-granted-kinds
-use Rattle.registers.proofs.read_granted.Reads as read-granted-reads
-use Rattle.registers.proofs.write_granted.Kinds as write-granted-kinds
-use Rattle.registers.proofs.write_granted.Reads as write-granted-reads
+use Rattle.registers.proofs.read_granted.Kinds as read_granted_kinds
+use Rattle.registers.proofs.read_granted.Reads as read_granted_reads
+use Rattle.registers.proofs.write_granted.Kinds as write_granted_kinds
+use Rattle.registers.proofs.write_granted.Reads as write_granted_reads
 
 -- what a read and a write leave
 abbrev seen : (value : ℕ) (deadlines : List ℕ) (last : ℕ) → Seen
@@ -18,12 +18,12 @@ seen value deadlines last = record { value = value; deadlines = deadlines; last 
 abbrev stored : (late : Bool) (values deadlines : List ℕ) (last : ℕ) → Stored
 stored late values deadlines last = record { late = late; values = values; deadlines = deadlines; last = last }
 
-pub read-granted-settles : Settles 3 read-granted-kinds.ps read-granted-kinds.r read-granted-reads.Post
-read-granted-settles κs a x y u v p q =
+pub read_granted_settles : Settles 3 read_granted_kinds.ps read_granted_kinds.r read_granted_reads.Post
+read_granted_settles κs a x y u v p q =
     let e : seen x u.1.0 u.1.1.0 ≡ seen y v.1.0 v.1.1.0 = p ∙ sym q in
     ((λ k. (e k).value), (λ k. (tt, ((e k).deadlines, ((e k).last, (tt, (tt, (tt, (tt, tt)))))))))
 
-pub write-granted-settles : Settles 3 write-granted-kinds.ps write-granted-kinds.r write-granted-reads.Post
-write-granted-settles κs a x y u v p q =
+pub write_granted_settles : Settles 3 write_granted_kinds.ps write_granted_kinds.r write_granted_reads.Post
+write_granted_settles κs a x y u v p q =
     let e : stored x u.0 u.1.0 u.1.1.0 ≡ stored y v.0 v.1.0 v.1.1.0 = p ∙ sym q in
     ((λ k. (e k).late), (λ k. ((e k).values, ((e k).deadlines, ((e k).last, (tt, (tt, (tt, (tt, tt)))))))))

@@ -2,7 +2,7 @@
 // The crate `bank` refuses the others.
 ghost use Rattle.std.specs.Prelude.{◌≡◌};
 ghost use Rattle.terms.specs.Ranges.{IsPair, IsTick, IsWait};
-ghost use Rattle.registers.specs.Deadlines.{pair_of, due, readGranted, writeGranted};
+ghost use Rattle.registers.specs.Deadlines.{pair_of, due, read_granted, write_granted};
 
 use terms::{ProcessNumber, SlotNumber, Trace, Wait};
 
@@ -49,7 +49,7 @@ pub fn read_granted(
     requires tick { IsTick t }
     requires wait { IsWait d }
     ensures { record { value = result; deadlines = deadlines.new; last = last.new }
-        ≡ readGranted values.now deadlines.old i c t d }
+        ≡ read_granted values.now deadlines.old i c t d }
 {
     let pair = pair_of(i, c);
     deadlines[pair] = due_at(t, d);
@@ -70,7 +70,7 @@ pub fn write_granted(
 ) -> bool
     requires { IsPair i c }
     ensures { record { late = result; values = values.new; deadlines = deadlines.new; last = last.new }
-        ≡ writeGranted values.old deadlines.old i c t v }
+        ≡ write_granted values.old deadlines.old i c t v }
 {
     let pair = pair_of(i, c);
     let deadline = deadlines[pair];

@@ -2,8 +2,8 @@
 -- Assumes nothing.
 use mathlib.Core.Path.{refl, sym, ◌∙◌}
 use Rattle.terms.proofs.Settles.{Settles}
-use Rattle.routine.proofs.judges.judge.Kinds as judge-kinds
+use Rattle.routine.proofs.judges.judge.Kinds as judge_kinds
 use Rattle.routine.proofs.judges.judge.Reads as judge
 
-pub judge-settles : Settles 1 judge-kinds.ps judge-kinds.r judge.Post
-judge-settles κs a x y u v p q = (p ∙ sym q, refl)
+pub judge_settles : Settles 1 judge_kinds.ps judge_kinds.r judge.Post
+judge_settles κs a x y u v p q = (p ∙ sym q, refl)

@@ -19,14 +19,14 @@ module _ (u : Shape) (w : ℕ) (r : Row) where
   pub looked : (v : ℕ) → v ≡ 0 → counted false (to Place.Put r.local) r ≡ taken u Place.Look w v false r
   looked v e = rw e (empty (routine u))
 
-  waits-of : (k : Routine) → counted false (until w (to Place.Check r.local)) r ≡ counted false (next_of k u r.own Place.Wait true 0 w r.local) r
-  waits-of (Routine.Lock how) = refl
-  waits-of Routine.Plain = refl
-  waits-of Routine.Fast = refl
+  waits_of : (k : Routine) → counted false (until w (to Place.Check r.local)) r ≡ counted false (next_of k u r.own Place.Wait true 0 w r.local) r
+  waits_of (Routine.Lock how) = refl
+  waits_of Routine.Plain = refl
+  waits_of Routine.Fast = refl
 
   -- from the wait to the check
   pub waits : counted false (until w (to Place.Check r.local)) r ≡ taken u Place.Wait w 0 false r
-  waits = waits-of (routine u)
+  waits = waits_of (routine u)
 
   stays_of : (k : Routine) → counted false r.local r ≡ counted false (next_of k u r.own Place.Decided true 0 w r.local) r
   stays_of (Routine.Lock how) = refl

@@ -1,7 +1,7 @@
 // JUDGE: whether a process may take a step.
 ghost use Rattle.std.specs.Prelude.{◌≡◌};
 ghost use Rattle.model.specs.Run;
-ghost use Rattle.model.specs.Routine.{isDecided};
+ghost use Rattle.model.specs.Routine.{is_decided};
 ghost use Rattle.rows.specs.Rows.{row_in, IsRow};
 
 use model::{Place, Shape};
@@ -9,7 +9,7 @@ use rows::NUMBERS;
 use steps::Step;
 
 fn is_decided(place: Place) -> bool
-    ensures { result ≡ isDecided place }
+    ensures { result ≡ is_decided place }
 {
     match place {
         Place::Rest => false,

@@ -1,10 +1,10 @@
 // TAKE: where a process goes from its place with memory's answer, in place; a function for each place. A kind that has no such place only counts the move.
 ghost use Rattle.std.specs.Prelude.{◌+◌, ◌≤◌, ◌<◌, ◌≡◌, false};
-ghost use Rattle.terms.specs.Limits.{mostSlots, topTick};
+ghost use Rattle.terms.specs.Limits.{most_slots, top_tick};
 ghost use Rattle.model.specs.Bounds.{Sound, Room};
-ghost use Rattle.model.specs.Time.{wakeAt};
+ghost use Rattle.model.specs.Time.{wake_at};
 ghost use Rattle.model.specs.declared.Place.{Place};
-ghost use Rattle.model.specs.Routine.{SlotRule, slots_of, scanAt, scanFrom};
+ghost use Rattle.model.specs.Routine.{SlotRule, slots_of, scan_at, scan_from};
 ghost use Rattle.rows.specs.Rows.{row_in, IsRow, Whole, Changed, turn, taken, Takes};
 
 use kinds::Kind;
@@ -25,7 +25,7 @@ fn leave(shape: Shape, j: usize, rows: &[u32; NUMBERS]) -> SlotNumber
 fn filled(shape: Shape, j: usize, rows: &[u32; NUMBERS]) -> SlotNumber
     requires row { IsRow j }
     requires sound { Sound shape }
-    requires j_bound { (row_in rows.now j).local.slot.0 < mostSlots }
+    requires j_bound { (row_in rows.now j).local.slot.0 < most_slots }
     ensures { result ≡ (slots_of SlotRule.Ring shape (row_in rows.now j).local).filled }
 {
     let c = rows::slot(j, rows);
@@ -49,7 +49,7 @@ fn lost(shape: Shape, j: usize, rows: &[u32; NUMBERS]) -> SlotNumber
 // The scan goes on at value v, or ends past the last one.
 fn scan_at(size: u32, v: u32, j: usize, rows: &mut [u32; NUMBERS])
     requires { IsRow j }
-    ensures { Changed j (turn (scanAt size v)) rows.old rows.new }
+    ensures { Changed j (turn (scan_at size v)) rows.old rows.new }
 {
     if v <= size {
         rows::to(Place::Scan, j, rows);
@@ -62,8 +62,8 @@ fn scan_at(size: u32, v: u32, j: usize, rows: &mut [u32; NUMBERS])
 // From value v on, its own skipped.
 fn scan_from(size: u32, v: u32, j: usize, rows: &mut [u32; NUMBERS])
     requires row { IsRow j }
-    requires v_bound { v ≤ mostSlots + 1 }
-    ensures { Changed j (λ r. turn (scanFrom size r.own v) r) rows.old rows.new }
+    requires v_bound { v ≤ most_slots + 1 }
+    ensures { Changed j (λ r. turn (scan_from size r.own v) r) rows.old rows.new }
 {
     if v == rows::own(j, rows) {
         scan_at(size, v + 1, j, rows);
@@ -149,8 +149,8 @@ pub fn wait(shape: Shape, tick: u32, j: usize, rows: &mut [u32; NUMBERS])
     requires row { IsRow j }
     requires sound { Sound shape }
     requires room { Room shape (row_in rows.old j) }
-    requires tick_le_top_tick { tick ≤ topTick }
-    ensures { Changed j (taken shape Place.Wait (wakeAt shape.delta tick) 0 false) rows.old rows.new }
+    requires tick_le_top_tick { tick ≤ top_tick }
+    ensures { Changed j (taken shape Place.Wait (wake_at shape.delta tick) 0 false) rows.old rows.new }
 {
     rows::count(false, j, rows);
     rows::to(Place::Check, j, rows); // fig. 3, line 3; fig. 7, line 2; fig. 8, line 3

@@ -9,41 +9,41 @@ use borrow.Author.Tests.{eqb-true, eqb-false, ltb-true, ltb-false}
 use lib.Dec.{eqb, ltb}
 use lib.ListN.{length, set, length-set}
 use lib.Seq.{get_or-set_same, get_or-set_other}
-use Rattle.terms.specs.Limits.{mostProcesses}
+use Rattle.terms.specs.Limits.{most_processes}
 use Rattle.terms.specs.Numbers.{slot_of}
 use Rattle.model.specs.declared.Row.{Row}
 use Rattle.model.specs.Routine.{to, on, until, decides, scans, counted, crash}
 use Rattle.model.specs.Places.{place_of, code_of}
-use Rattle.model.proofs.Places.{place-of-code}
+use Rattle.model.proofs.Places.{place_of_code}
 use Rattle.rows.specs.Rows.{
-  rowWidth,
+  row_width,
   together,
-  placeField,
-  slotField,
-  ownField,
-  wakeField,
-  scanField,
-  decidedField,
-  movesField,
-  latesField,
-  crashedField,
+  place_field,
+  slot_field,
+  own_field,
+  wake_field,
+  scan_field,
+  decided_field,
+  moves_field,
+  lates_field,
+  crashed_field,
   IsRow,
   Whole,
   position,
   number_at,
-  rowWith,
+  row_with,
   row_in,
   written,
   added,
-  countedIn,
-  begunIn,
+  counted_in,
+  begun_in,
   Changed,
   turn,
 }
 
 -- a row is its numbers
-pub same_row : (x y : ℕ → ℕ) → ((f : ℕ) → x f ≡ y f) → rowWith x ≡ rowWith y
-same_row x y e = λ i. rowWith (λ f. e f i)
+pub same_row : (x y : ℕ → ℕ) → ((f : ℕ) → x f ≡ y f) → row_with x ≡ row_with y
+same_row x y e = λ i. row_with (λ f. e f i)
 
 -- a row's numbers with v for number f
 abbrev pub put : ℕ → ℕ → (ℕ → ℕ) → ℕ → ℕ
@@ -54,13 +54,13 @@ apart : (j k f g : ℕ) → IsRow j → IsRow k → ((k ≡ j) × (g ≡ f) → 
 apart j k f g hj hk h = by (ltb f together) (ltb g together) refl refl
   where
     by : (a b : Bool) → ltb f together ≡ a → ltb g together ≡ b
-        → cond b (k * together + g) (g * mostProcesses + k) ≡ cond a (j * together + f) (f * mostProcesses + j) → ⊥
+        → cond b (k * together + g) (g * most_processes + k) ≡ cond a (j * together + f) (f * most_processes + j) → ⊥
     by true true p q e = let n = ltb-true f together p in let m = ltb-true g together q in h (omega arith, omega arith)
     by true false p q e = let n = ltb-true f together p in let m = ltb-false g together q in absurd (omega arith)
     by false true p q e = let n = ltb-false f together p in let m = ltb-true g together q in absurd (omega arith)
     by false false p q e = let n = ltb-false f together p in let m = ltb-false g together q in h (omega arith, omega arith)
 
-module _ (s : List ℕ) (j f v : ℕ) (is : IsRow j) (few : f < rowWidth) where
+module _ (s : List ℕ) (j f v : ℕ) (is : IsRow j) (few : f < row_width) where
   there : Whole s → position j f < length s
   there long = by (ltb f together) refl
     where
@@ -68,20 +68,20 @@ module _ (s : List ℕ) (j f v : ℕ) (is : IsRow j) (few : f < rowWidth) where
       by true e = rw (e, long) (omega (arith, ltb-true f together e))
       by false e = rw (e, long) (omega arith)
 
-  own-numbers : Whole s → (g : ℕ) → number_at (written s j f v) j g ≡ put f v (number_at s j) g
-  own-numbers long g = by (eqb g f) refl
+  own_numbers : Whole s → (g : ℕ) → number_at (written s j f v) j g ≡ put f v (number_at s j) g
+  own_numbers long g = by (eqb g f) refl
     where
       by : (b : Bool) → eqb g f ≡ b → number_at (written s j f v) j g ≡ cond b v (number_at s j g)
       by true e = rw (eqb-true g f e) (get_or-set_same s (position j f) v 0 (there long))
       by false e = get_or-set_other s (position j f) (position j g) v 0 (apart j j f g is is (λ p. eqb-false g f e p.1))
 
-  -- THE LAW: of a written number, whatever it is, the row is what `rowWith` makes of its numbers with that one changed
-  pub changed : (g : Row → Row) → rowWith (put f v (number_at s j)) ≡ g (row_in s j) → Changed j g s (written s j f v)
+  -- THE LAW: of a written number, whatever it is, the row is what `row_with` makes of its numbers with that one changed
+  pub changed : (g : Row → Row) → row_with (put f v (number_at s j)) ≡ g (row_in s j) → Changed j g s (written s j f v)
   unfolding row_in
   changed g e =
       record {
         long = length-set s (position j f) v;
-        row = λ long. same_row _ _ (own-numbers long) ∙ e;
+        row = λ long. same_row _ _ (own_numbers long) ∙ e;
         others = λ k i h n. get_or-set_other s (position j f) (position k i) v 0 (apart j k f i is h (λ p. n p.0));
       }
 
@@ -95,8 +95,8 @@ module _ {j : ℕ} {g h : Row → Row} {a b : List ℕ} where
         others = λ k f i n. y.others k f i n ∙ x.others k f i n;
       }
 
-  pub told-as : Changed j g a b → (Whole a → g (row_in a j) ≡ h (row_in a j)) → Changed j h a b
-  told-as x e = record { long = x.long; row = λ l. x.row l ∙ e l; others = x.others }
+  pub told_as : Changed j g a b → (Whole a → g (row_in a j) ≡ h (row_in a j)) → Changed j h a b
+  told_as x e = record { long = x.long; row = λ l. x.row l ∙ e l; others = x.others }
 
 -- WHAT EACH NUMBER IS TO ITS ROW
 
@@ -115,50 +115,50 @@ begun b r = owning b.own (turn (λ x. on b.local.slot (to b.local.place x)) r)
 
 module _ {j : ℕ} {old new : List ℕ} (is : IsRow j) where
   -- as the list that a function promises
-  by : (f v : ℕ) → f < rowWidth → (g : Row → Row) → rowWith (put f v (number_at old j)) ≡ g (row_in old j) → new ≡ written old j f v → Changed j g old new
+  by : (f v : ℕ) → f < row_width → (g : Row → Row) → row_with (put f v (number_at old j)) ≡ g (row_in old j) → new ≡ written old j f v → Changed j g old new
   by f v few g e p = subst (Changed j g old) (sym p) (changed old j f v is few g e)
 
-  pub place-written : (v : ℕ) → new ≡ written old j placeField v → Changed j (turn (to (place_of v))) old new
+  pub place_written : (v : ℕ) → new ≡ written old j place_field v → Changed j (turn (to (place_of v))) old new
   unfolding row_in
-  place-written v = by placeField v (omega arith) (turn (to (place_of v))) refl
+  place_written v = by place_field v (omega arith) (turn (to (place_of v))) refl
 
-  pub slot-written : (v : ℕ) → new ≡ written old j slotField v → Changed j (turn (on (slot_of v))) old new
+  pub slot_written : (v : ℕ) → new ≡ written old j slot_field v → Changed j (turn (on (slot_of v))) old new
   unfolding row_in
-  slot-written v = by slotField v (omega arith) (turn (on (slot_of v))) refl
+  slot_written v = by slot_field v (omega arith) (turn (on (slot_of v))) refl
 
-  pub wake-written : (w : ℕ) → new ≡ written old j wakeField w → Changed j (turn (until w)) old new
+  pub wake_written : (w : ℕ) → new ≡ written old j wake_field w → Changed j (turn (until w)) old new
   unfolding row_in
-  wake-written w = by wakeField w (omega arith) (turn (until w)) refl
+  wake_written w = by wake_field w (omega arith) (turn (until w)) refl
 
-  pub decided-written : (v : ℕ) → new ≡ written old j decidedField v → Changed j (turn (decides v)) old new
+  pub decided_written : (v : ℕ) → new ≡ written old j decided_field v → Changed j (turn (decides v)) old new
   unfolding row_in
-  decided-written v = by decidedField v (omega arith) (turn (decides v)) refl
+  decided_written v = by decided_field v (omega arith) (turn (decides v)) refl
 
-  pub scan-written : (v : ℕ) → new ≡ written old j scanField v → Changed j (turn (scans v)) old new
+  pub scan_written : (v : ℕ) → new ≡ written old j scan_field v → Changed j (turn (scans v)) old new
   unfolding row_in
-  scan-written v = by scanField v (omega arith) (turn (scans v)) refl
+  scan_written v = by scan_field v (omega arith) (turn (scans v)) refl
 
-  pub own-written : (v : ℕ) → new ≡ written old j ownField v → Changed j (owning v) old new
+  pub own_written : (v : ℕ) → new ≡ written old j own_field v → Changed j (owning v) old new
   unfolding row_in
-  own-written v = by ownField v (omega arith) (owning v) refl
+  own_written v = by own_field v (omega arith) (owning v) refl
 
-  pub moves-added : (n : ℕ) → new ≡ added old j movesField n → Changed j (moving n) old new
+  pub moves_added : (n : ℕ) → new ≡ added old j moves_field n → Changed j (moving n) old new
   unfolding row_in
-  moves-added n = by movesField _ (omega arith) (moving n) refl
+  moves_added n = by moves_field _ (omega arith) (moving n) refl
 
-  pub lates-added : (n : ℕ) → new ≡ added old j latesField n → Changed j (lagging n) old new
+  pub lates_added : (n : ℕ) → new ≡ added old j lates_field n → Changed j (lagging n) old new
   unfolding row_in
-  lates-added n = by latesField _ (omega arith) (lagging n) refl
+  lates_added n = by lates_field _ (omega arith) (lagging n) refl
 
-  pub crash-written : new ≡ written old j crashedField 1 → Changed j crash old new
+  pub crash-written : new ≡ written old j crashed_field 1 → Changed j crash old new
   unfolding row_in
-  crash-written = by crashedField 1 (omega arith) crash refl
+  crash-written = by crashed_field 1 (omega arith) crash refl
 
 module _ {j : ℕ} {old new : List ℕ} (is : IsRow j) where
-  pub count-written : (late : Bool) → new ≡ countedIn late j old → Changed j (λ r. counted late r.local r) old new
-  count-written late e = also (moves-added is 1 refl) (lates-added is (cond late 1 0) e)
+  pub count_written : (late : Bool) → new ≡ counted_in late j old → Changed j (λ r. counted late r.local r) old new
+  count_written late e = also (moves_added is 1 refl) (lates_added is (cond late 1 0) e)
 
-  pub begin-written : (b : Row) → new ≡ begunIn b j old → Changed j (begun b) old new
-  begin-written b e =
-      told-as (also (also (place-written is (code_of b.local.place) refl) (slot-written is b.local.slot.0 refl)) (own-written is b.own e))
-      (λ l. rw (place-of-code b.local.place))
+  pub begin_written : (b : Row) → new ≡ begun_in b j old → Changed j (begun b) old new
+  begin_written b e =
+      told_as (also (also (place_written is (code_of b.local.place) refl) (slot_written is b.local.slot.0 refl)) (own_written is b.own e))
+      (λ l. rw (place_of_code b.local.place))

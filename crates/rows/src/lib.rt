@@ -3,18 +3,18 @@ ghost use Rattle.std.specs.Prelude.{◌≡◌};
 ghost use Rattle.model.specs.Places.{code_of, place_of};
 ghost use Rattle.model.specs.Routine.{routine_of};
 ghost use Rattle.rows.specs.Rows.{
-  placeField,
-  slotField,
-  ownField,
-  wakeField,
-  scanField,
-  decidedField,
-  crashedField,
+  place_field,
+  slot_field,
+  own_field,
+  wake_field,
+  scan_field,
+  decided_field,
+  crashed_field,
   row_in,
   IsRow,
   written,
-  countedIn,
-  begunIn,
+  counted_in,
+  begun_in,
   Uncounted,
 };
 
@@ -156,35 +156,35 @@ pub fn is_crashed(j: usize, rows: &[u32; NUMBERS]) -> bool
 
 pub fn to(place: Place, j: usize, rows: &mut [u32; NUMBERS])
     requires { IsRow j }
-    ensures { rows.new ≡ written rows.old j placeField (code_of place) }
+    ensures { rows.new ≡ written rows.old j place_field (code_of place) }
 {
     rows[j * TOGETHER + PLACE] = code(place);
 }
 
 pub fn on(c: SlotNumber, j: usize, rows: &mut [u32; NUMBERS])
     requires { IsRow j }
-    ensures { rows.new ≡ written rows.old j slotField c.0 }
+    ensures { rows.new ≡ written rows.old j slot_field c.0 }
 {
     rows[j * TOGETHER + SLOT] = c.0;
 }
 
 pub fn until(wake: u32, j: usize, rows: &mut [u32; NUMBERS])
     requires { IsRow j }
-    ensures { rows.new ≡ written rows.old j wakeField wake }
+    ensures { rows.new ≡ written rows.old j wake_field wake }
 {
     rows[j * TOGETHER + WAKE] = wake;
 }
 
 pub fn decides(v: u32, j: usize, rows: &mut [u32; NUMBERS])
     requires { IsRow j }
-    ensures { rows.new ≡ written rows.old j decidedField v }
+    ensures { rows.new ≡ written rows.old j decided_field v }
 {
     rows[j * TOGETHER + DECIDED] = v;
 }
 
 pub fn scans(v: u32, j: usize, rows: &mut [u32; NUMBERS])
     requires { IsRow j }
-    ensures { rows.new ≡ written rows.old j scanField v }
+    ensures { rows.new ≡ written rows.old j scan_field v }
 {
     rows[j * TOGETHER + SCAN] = v;
 }
@@ -193,7 +193,7 @@ pub fn scans(v: u32, j: usize, rows: &mut [u32; NUMBERS])
 pub fn count(late: bool, j: usize, rows: &mut [u32; NUMBERS])
     requires row { IsRow j }
     requires uncounted { Uncounted (row_in rows.old j) }
-    ensures { rows.new ≡ countedIn late j rows.old }
+    ensures { rows.new ≡ counted_in late j rows.old }
 {
     rows[j * TOGETHER + MOVES] = rows[j * TOGETHER + MOVES] + 1;
     if late {
@@ -203,7 +203,7 @@ pub fn count(late: bool, j: usize, rows: &mut [u32; NUMBERS])
 
 pub fn crash(j: usize, rows: &mut [u32; NUMBERS])
     requires { IsRow j }
-    ensures { rows.new ≡ written rows.old j crashedField 1 }
+    ensures { rows.new ≡ written rows.old j crashed_field 1 }
 {
     rows[CRASHED_COLUMN + j] = 1;
 }
@@ -211,7 +211,7 @@ pub fn crash(j: usize, rows: &mut [u32; NUMBERS])
 // A process that has not moved: its place, its slot, the value that it writes.
 fn unmoved(place: Place, c: SlotNumber, own: u32, j: usize, rows: &mut [u32; NUMBERS])
     requires { IsRow j }
-    ensures { rows.new ≡ begunIn (Rattle.model.specs.Routine.unmoved place c own) j rows.old }
+    ensures { rows.new ≡ begun_in (Rattle.model.specs.Routine.unmoved place c own) j rows.old }
 {
     rows[j * TOGETHER + PLACE] = code(place);
     rows[j * TOGETHER + SLOT] = c.0;
@@ -221,7 +221,7 @@ fn unmoved(place: Place, c: SlotNumber, own: u32, j: usize, rows: &mut [u32; NUM
 // The process with start byte x begins.
 pub fn begin(kind: Kind, x: u8, j: usize, rows: &mut [u32; NUMBERS])
     requires { IsRow j }
-    ensures { rows.new ≡ begunIn (Rattle.model.specs.Routine.begin (routine_of kind) j x) j rows.old }
+    ensures { rows.new ≡ begun_in (Rattle.model.specs.Routine.begin (routine_of kind) j x) j rows.old }
 {
     let start = x as u32;
     match kind {

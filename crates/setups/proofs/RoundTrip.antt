@@ -8,38 +8,38 @@ use Prim.Native.Nat.{ℕ, ◌+◌, ◌≤◌, ◌<◌}
 use native.Mathlib.Omega.{arith}
 use lib.ListN.{length, take, drop, replicate, length-append}
 use lib.Seq.{take-append_seam, drop-append_seam, take-add, take_at, drop-drop}
-use Rattle.terms.specs.Little.{littleOf, AllBytes}
-use Rattle.terms.proofs.LittleLaws.{little-of-bytes, little-bytes-of}
+use Rattle.terms.specs.Little.{little_of, AllBytes}
+use Rattle.terms.proofs.LittleLaws.{little_of_bytes, little_bytes_of}
 use Rattle.terms.proofs.Parts.{elements, take-elements}
 use Rattle.kinds.specs.Kinds.{kind_of}
 use Rattle.records.specs.declared.Written.{Written}
 use Rattle.records.specs.Record.{byte}
-use Rattle.records.proofs.RecordLaws.{byte_small, wrote-whole, wrote-said}
+use Rattle.records.proofs.RecordLaws.{byte_small, wrote_whole, wrote_said}
 use Rattle.setups.specs.declared.Setup.{Setup}
 use Rattle.setups.specs.declared.SetupRead.{SetupRead}
-use Rattle.setups.specs.Setup.{anyBadStart, setupRefusal, setupRead, setupRest, restStart, setupHead, setupBytes, setupWriteRefusal}
-use Rattle.setups.specs.Setup.{WroteSetup, setupFields, startBytes, places}
-use Rattle.setups.proofs.SetupLaws.{Limits, limits-size, Head, AcceptedSetup, setup-said, said-setup, setup-accepted, rest-accepted}
-use Rattle.setups.proofs.SetupLaws.{start-count, WritableSetup, setup-write-said, said-setup-write}
+use Rattle.setups.specs.Setup.{any_bad_start, setup_refusal, setup_read, setup_rest, rest_start, setup_head, setup_bytes, setup_write_refusal}
+use Rattle.setups.specs.Setup.{WroteSetup, setup_fields, start_bytes, places}
+use Rattle.setups.proofs.SetupLaws.{Limits, limits_size, Head, AcceptedSetup, setup_said, said_setup, setup_accepted, rest_accepted}
+use Rattle.setups.proofs.SetupLaws.{start_count, WritableSetup, setup_write_said, said_setup_write}
 
 -- the setup that a writer is given
 abbrev pub given : ℕ → ℕ → ℕ → ℕ → List ℕ → Setup
 given most kind size delta starts =
     record { kind = kind; processes = length starts; size = size; delta = delta; starts = places most starts }
 
-length-setupBytes : (kind size delta : ℕ) (starts : List ℕ) → length (setupBytes kind size delta starts) ≡ 8 + length starts
-length-setupBytes kind size delta starts = omega arith
+length-setup_bytes : (kind size delta : ℕ) (starts : List ℕ) → length (setup_bytes kind size delta starts) ≡ 8 + length starts
+length-setup_bytes kind size delta starts = omega arith
 
 -- a setup within the limits, written before any bytes, reads back, and those bytes are the rest
 module _ (most kind size delta : ℕ) (starts rest : List ℕ) where
   abbrev trace : List ℕ
-  trace = setupBytes kind size delta starts ++ rest
+  trace = setup_bytes kind size delta starts ++ rest
 
-  same : startBytes trace ≡ starts
+  same : start_bytes trace ≡ starts
   same = take-append_seam starts rest
 
-  module _ (limits : Limits most kind (length starts) size 0) (good : anyBadStart (kind_of kind) size 0 starts ≡ false) where
-    accepted : setupRefusal most trace ≡ 0
+  module _ (limits : Limits most kind (length starts) size 0) (good : any_bad_start (kind_of kind) size 0 starts ≡ false) where
+    accepted : setup_refusal most trace ≡ 0
     accepted =
         let head : Head most trace = record {
           eight = omega arith;
@@ -48,14 +48,14 @@ module _ (most kind size delta : ℕ) (starts rest : List ℕ) where
           limits = limits;
           whole = omega (arith, length-append starts rest);
         } in
-        said-setup most trace (record { head = head; good = rw same good })
+        said_setup most trace (record { head = head; good = rw same good })
 
-    pub setup-back : delta < 65_536 → setupRead most trace ≡ record { refusal = 0; setup = given most kind size delta starts }
-    setup-back h = sym (setup-accepted most trace accepted) ∙ simp (little-of-bytes 2 delta h, same)
+    pub setup_back : delta < 65_536 → setup_read most trace ≡ record { refusal = 0; setup = given most kind size delta starts }
+    setup_back h = sym (setup_accepted most trace accepted) ∙ simp (little_of_bytes 2 delta h, same)
 
-    pub rest_back : (setupRest most trace ≡ rest) × (restStart most trace ≡ 8 + length starts)
+    pub rest_back : (setup_rest most trace ≡ rest) × (rest_start most trace ≡ 8 + length starts)
     rest_back =
-        let r = rest-accepted most trace accepted in
+        let r = rest_accepted most trace accepted in
         (r.0 ∙ sym (drop-drop (length starts) 8 trace) ∙ drop-append_seam starts rest, r.1)
 
 -- from the writer's own promise, over any buffer
@@ -63,61 +63,61 @@ module _ (most kind size delta : ℕ) (starts before after : List ℕ) (r : Writ
     (w : WroteSetup most kind size delta starts before r after)
     (ok : r.refusal ≡ 0) where
   writable : WritableSetup most kind size starts (length before)
-  writable = setup-write-said _ kind size starts (length before) (wrote-said _ _ _ _ _ w ok).0
+  writable = setup_write_said _ kind size starts (length before) (wrote_said _ _ _ _ _ w ok).0
 
-  laid : after ≡ setupBytes kind size delta starts ++ drop (8 + length starts) before
+  laid : after ≡ setup_bytes kind size delta starts ++ drop (8 + length starts) before
   laid =
-      (wrote-said _ _ _ _ _ w ok).1
-      ∙ ap (λ (n : ℕ). setupBytes kind size delta starts ++ drop n before) (length-setupBytes kind size delta starts)
+      (wrote_said _ _ _ _ _ w ok).1
+      ∙ ap (λ (n : ℕ). setup_bytes kind size delta starts ++ drop n before) (length-setup_bytes kind size delta starts)
 
-  pub written-setup-back : delta < 65_536 → setupRead most after ≡ record { refusal = 0; setup = given most kind size delta starts }
-  written-setup-back h = ap (setupRead most) laid ∙ setup-back most kind size delta starts _ writable.limits writable.good h
+  pub written_setup_back : delta < 65_536 → setup_read most after ≡ record { refusal = 0; setup = given most kind size delta starts }
+  written_setup_back h = ap (setup_read most) laid ∙ setup_back most kind size delta starts _ writable.limits writable.good h
 
-  pub written-rest-back : (setupRest most after ≡ drop (8 + length starts) before) × (restStart most after ≡ 8 + length starts)
-  written-rest-back = rw laid (rest_back most kind size delta starts _ writable.limits writable.good)
+  pub written_rest_back : (setup_rest most after ≡ drop (8 + length starts) before) × (rest_start most after ≡ 8 + length starts)
+  written_rest_back = rw laid (rest_back most kind size delta starts _ writable.limits writable.good)
 
 -- an accepted setup, written again from what was read of it, gives its bytes
-module _ (most : ℕ) (s : List ℕ) (bytes : AllBytes s) (ok : setupRefusal most s ≡ 0) where
+module _ (most : ℕ) (s : List ℕ) (bytes : AllBytes s) (ok : setup_refusal most s ≡ 0) where
   known : AcceptedSetup most s
-  known = setup-said most s ok
+  known = setup_said most s ok
 
   abbrev delta : ℕ
-  delta = littleOf (byte 6 s ∷ byte 7 s ∷ [])
+  delta = little_of (byte 6 s ∷ byte 7 s ∷ [])
 
-  head-again : setupHead (byte 2 s) (byte 3 s) (byte 4 s) delta ≡ elements 8 0 s
-  head-again =
+  head_again : setup_head (byte 2 s) (byte 3 s) (byte 4 s) delta ≡ elements 8 0 s
+  head_again =
       let h = known.head in
-      cc ((limits-size _ _ _ _ _ h.limits).2, little-bytes-of (byte 6 s ∷ byte 7 s ∷ []) (byte_small s bytes 6, (byte_small s bytes 7, tt)))
+      cc ((limits_size _ _ _ _ _ h.limits).2, little_bytes_of (byte 6 s ∷ byte 7 s ∷ []) (byte_small s bytes 6, (byte_small s bytes 7, tt)))
 
-  bytes-again : setupBytes (byte 2 s) (byte 4 s) delta (startBytes s) ≡ take (8 + byte 3 s) s
-  bytes-again =
-      ap (λ (n : ℕ). setupHead (byte 2 s) n (byte 4 s) delta ++ startBytes s) (start-count s known.head.whole)
-      ∙ ap (λ (l : List ℕ). l ++ startBytes s) (head-again ∙ sym (take-elements 8 0 s known.head.eight))
+  bytes_again : setup_bytes (byte 2 s) (byte 4 s) delta (start_bytes s) ≡ take (8 + byte 3 s) s
+  bytes_again =
+      ap (λ (n : ℕ). setup_head (byte 2 s) n (byte 4 s) delta ++ start_bytes s) (start_count s known.head.whole)
+      ∙ ap (λ (l : List ℕ). l ++ start_bytes s) (head_again ∙ sym (take-elements 8 0 s known.head.eight))
       ∙ sym (take-add 8 (byte 3 s) s)
 
-  starts-again : take (byte 3 s) (places most (startBytes s)) ≡ startBytes s
-  starts-again = take_at (startBytes s) (drop (length (startBytes s)) (replicate most 0)) (byte 3 s) (start-count s known.head.whole)
+  starts_again : take (byte 3 s) (places most (start_bytes s)) ≡ start_bytes s
+  starts_again = take_at (start_bytes s) (drop (length (start_bytes s)) (replicate most 0)) (byte 3 s) (start_count s known.head.whole)
 
-  fields : (setupRead most s).setup ≡ setupFields most s
-  fields = ap (λ (x : SetupRead). x.setup) (sym (setup-accepted most s ok))
+  fields : (setup_read most s).setup ≡ setup_fields most s
+  fields = ap (λ (x : SetupRead). x.setup) (sym (setup_accepted most s ok))
 
-  pub setup-again : let t = (setupRead most s).setup in setupBytes t.kind t.size t.delta (take t.processes t.starts) ≡ take (8 + t.processes) s
-  setup-again = simp (fields, starts-again) bytes-again
+  pub setup_again : let t = (setup_read most s).setup in setup_bytes t.kind t.size t.delta (take t.processes t.starts) ≡ take (8 + t.processes) s
+  setup_again = simp (fields, starts_again) bytes_again
 
   -- from the writer's own promise, over any buffer that has room
   module _ (before after : List ℕ) (r : Written) (room : 8 + byte 3 s ≤ length before)
-      (w : let t = (setupRead most s).setup in
+      (w : let t = (setup_read most s).setup in
       WroteSetup most t.kind t.size t.delta (take t.processes t.starts) before r after) where
     -- the number of start bytes is n, and byte 5 is 0
-    writes : WritableSetup most (byte 2 s) (byte 4 s) (startBytes s) (length before)
+    writes : WritableSetup most (byte 2 s) (byte 4 s) (start_bytes s) (length before)
     writes =
         let l = known.head.limits in
-        let n = start-count s known.head.whole in
-        let zero = (limits-size _ _ _ _ _ l).2 in
+        let n = start_count s known.head.whole in
+        let zero = (limits_size _ _ _ _ _ l).2 in
         record {
           limits = record {
-            kindLow = l.kindLow;
-            kindHigh = l.kindHigh;
+            kind_low = l.kind_low;
+            kind_high = l.kind_high;
             someone = omega arith;
             few = omega arith;
             sized = rw n (rw zero at l.sized);
@@ -126,11 +126,11 @@ module _ (most : ℕ) (s : List ℕ) (bytes : AllBytes s) (ok : setupRefusal mos
           fits = omega arith;
         }
 
-    pub setup-rewritten : (r ≡ record { refusal = 0; len = 8 + byte 3 s }) × (after ≡ take (8 + byte 3 s) s ++ drop (8 + byte 3 s) before)
-    setup-rewritten =
-        let rec : List ℕ = setupBytes (byte 2 s) (byte 4 s) delta (startBytes s) in
-        let count : length rec ≡ 8 + byte 3 s = omega (arith, start-count s known.head.whole) in
-        let p = wrote-whole _ rec before r after (simp (fields, starts-again) at w) (said-setup-write _ _ _ _ _ writes) in (
+    pub setup_rewritten : (r ≡ record { refusal = 0; len = 8 + byte 3 s }) × (after ≡ take (8 + byte 3 s) s ++ drop (8 + byte 3 s) before)
+    setup_rewritten =
+        let rec : List ℕ = setup_bytes (byte 2 s) (byte 4 s) delta (start_bytes s) in
+        let count : length rec ≡ 8 + byte 3 s = omega (arith, start_count s known.head.whole) in
+        let p = wrote_whole _ rec before r after (simp (fields, starts_again) at w) (said_setup_write _ _ _ _ _ writes) in (
           p.0 ∙ rw count,
-          p.1 ∙ ap (λ (n : ℕ). rec ++ drop n before) count ∙ ap (λ (l : List ℕ). l ++ drop (8 + byte 3 s) before) bytes-again,
+          p.1 ∙ ap (λ (n : ℕ). rec ++ drop n before) count ∙ ap (λ (l : List ℕ). l ++ drop (8 + byte 3 s) before) bytes_again,
         )

@@ -1,8 +1,8 @@
 // The setup record: mark, kind, n, ℓ or b, a zero byte, Δ, and n start bytes. 8 + n bytes.
 ghost use Rattle.std.specs.Prelude.{◌≡◌, ◌||◌, ◌+◌, ◌≤◌, length};
-ghost use Rattle.terms.specs.Limits.{mostProcesses};
-ghost use Rattle.setups.specs.Setup.{outOfLimits, badSize, proposes, noStart, anyBadStart, setupLimits, headRefusal};
-ghost use Rattle.setups.specs.Setup.{startsOf, noSetup, setupRead, setupRest, restStart, setupWriteRefusal, WroteSetup};
+ghost use Rattle.terms.specs.Limits.{most_processes};
+ghost use Rattle.setups.specs.Setup.{out_of_limits, bad_size, proposes, no_start, any_bad_start, setup_limits, head_refusal};
+ghost use Rattle.setups.specs.Setup.{starts_of, no_setup, setup_read, setup_rest, rest_start, setup_write_refusal, WroteSetup};
 
 use kinds::Kind;
 use records::Written;
@@ -46,7 +46,7 @@ fn number(x: u8) -> u32
 
 // ℓ or b, and the zero byte.
 fn is_out_of_limits(size: u32, spare: u32) -> bool
-    ensures { result ≡ outOfLimits size spare }
+    ensures { result ≡ out_of_limits size spare }
 {
     if size < 1 {
         return true;
@@ -58,7 +58,7 @@ fn is_out_of_limits(size: u32, spare: u32) -> bool
 }
 
 fn is_bad_size(kind: Kind, n: usize, size: u32, spare: u32) -> bool
-    ensures { result ≡ badSize kind n size spare }
+    ensures { result ≡ bad_size kind n size spare }
 {
     match kind {
         Kind::Lock => is_out_of_limits(size, spare),
@@ -78,7 +78,7 @@ fn is_proposing(kind: Kind) -> bool
 }
 
 fn is_no_start(proposal: bool, size: u8, x: u8) -> bool
-    ensures { result ≡ noStart proposal size x }
+    ensures { result ≡ no_start proposal size x }
 {
     if proposal {
         return x < 1 || size < x;
@@ -94,7 +94,7 @@ fn either(a: bool, b: bool) -> bool
 
 // Whether some byte of s is no start byte. It stops at none, and asks for the kind only once, so that many are looked at at once.
 fn any_bad_start(kind: Kind, size: u8, spare: u8, s: &[u8]) -> bool
-    ensures { result ≡ anyBadStart kind size spare s.now }
+    ensures { result ≡ any_bad_start kind size spare s.now }
 {
     let proposal = is_proposing(kind);
     let mut bad = false;
@@ -108,7 +108,7 @@ fn any_bad_start(kind: Kind, size: u8, spare: u8, s: &[u8]) -> bool
 
 // 3, 4 and 5: what the reader and the writer ask alike.
 fn setup_limits(most: u32, kind: u32, n: usize, size: u32, spare: u32) -> u32
-    ensures { result ≡ setupLimits most kind n size spare }
+    ensures { result ≡ setup_limits most kind n size spare }
 {
     if kinds::is_bad_kind(kinds::LAST, kind) {
         return 3;
@@ -129,7 +129,7 @@ fn setup_limits(most: u32, kind: u32, n: usize, size: u32, spare: u32) -> u32
 
 // 1 (8 bytes), 2, 3, 4, 5, 1 (8 + n): all that a setup is refused for but its start bytes.
 fn head_refusal(most: u32, trace: &[u8]) -> u32
-    ensures { result ≡ headRefusal most trace.now }
+    ensures { result ≡ head_refusal most trace.now }
 {
     if trace.len() < 8 {
         return 1;
@@ -165,8 +165,8 @@ struct StartsRead {
 }
 
 fn starts_of(kind: Kind, size: u8, spare: u8, s: &[u8]) -> StartsRead
-    requires { length s.now ≤ mostProcesses }
-    ensures { result ≡ startsOf mostProcesses kind size spare s.now }
+    requires { length s.now ≤ most_processes }
+    ensures { result ≡ starts_of most_processes kind size spare s.now }
 {
     if any_bad_start(kind, size, spare, s) {
         return StartsRead {
@@ -181,7 +181,7 @@ fn starts_of(kind: Kind, size: u8, spare: u8, s: &[u8]) -> StartsRead
 
 impl SetupRead {
     fn refused(no: u32) -> Self
-        ensures { result ≡ record { refusal = no; setup = noSetup mostProcesses } }
+        ensures { result ≡ record { refusal = no; setup = no_setup most_processes } }
     {
         SetupRead {
             refusal: no,
@@ -198,7 +198,7 @@ impl SetupRead {
 
 // The setup that a trace begins with.
 pub fn read_setup(trace: &[u8]) -> SetupRead
-    ensures { result ≡ setupRead mostProcesses trace.now }
+    ensures { result ≡ setup_read most_processes trace.now }
 {
     let no = head_refusal(Trace::PROCESSES, trace);
     if no != 0 {
@@ -227,8 +227,8 @@ pub fn read_setup(trace: &[u8]) -> SetupRead
 
 // The rest of a trace after its setup; on refusal the empty part at the trace's beginning.
 pub fn setup_rest(trace: &[u8]) -> &[u8]
-    ensures result_value { result.now ≡ setupRest mostProcesses trace.now }
-    ensures ref_ptr_value { result.ref_ptr ≡ (trace.entry.ref_ptr.0, restStart mostProcesses trace.now + trace.entry.ref_ptr.1) }
+    ensures result_value { result.now ≡ setup_rest most_processes trace.now }
+    ensures ref_ptr_value { result.ref_ptr ≡ (trace.entry.ref_ptr.0, rest_start most_processes trace.now + trace.entry.ref_ptr.1) }
 {
     let read = read_setup(trace);
     if read.refusal != 0 {
@@ -242,7 +242,7 @@ pub fn setup_rest(trace: &[u8]) -> &[u8]
 
 // 3, 4, 5, 6, 19 of a setup that is to be written to a buffer of `room` bytes.
 fn setup_write_refusal(most: u32, kind: u32, size: u32, starts: &[u8], room: usize) -> u32
-    ensures { result ≡ setupWriteRefusal most kind size starts.now room }
+    ensures { result ≡ setup_write_refusal most kind size starts.now room }
 {
     let n = starts.len();
     let no = setup_limits(most, kind, n, size, 0);
@@ -260,7 +260,7 @@ fn setup_write_refusal(most: u32, kind: u32, size: u32, starts: &[u8], room: usi
 
 // Writes a setup of as many processes as start bytes are lent, over the buffer's first bytes.
 pub fn write_setup(kind: u32, size: u32, delta: u16, starts: &[u8], buffer: &mut [u8]) -> Written
-    ensures { WroteSetup mostProcesses kind size delta starts.now buffer.old result buffer.new }
+    ensures { WroteSetup most_processes kind size delta starts.now buffer.old result buffer.new }
 {
     let no = setup_write_refusal(Trace::PROCESSES, kind, size, starts, buffer.len());
     if no != 0 {

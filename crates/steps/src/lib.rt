@@ -1,8 +1,8 @@
 // The step record: mark, process, event, tick. 8 bytes.
 ghost use Rattle.std.specs.Prelude.{◌≡◌};
-ghost use Rattle.terms.specs.Limits.{mostProcesses};
-ghost use Rattle.terms.specs.Numbers.{processOf};
-ghost use Rattle.steps.specs.Step.{noStep, stepLimits, stepRead, stepWriteRefusal, WroteStep};
+ghost use Rattle.terms.specs.Limits.{most_processes};
+ghost use Rattle.terms.specs.Numbers.{process_of};
+ghost use Rattle.steps.specs.Step.{no_step, step_limits, step_read, step_write_refusal, WroteStep};
 
 use records::Written;
 use terms::{ProcessNumber, Trace};
@@ -26,7 +26,7 @@ pub struct StepRead {
 
 impl StepRead {
     fn refused(no: u32) -> Self
-        ensures { result ≡ record { refusal = no; step = noStep } }
+        ensures { result ≡ record { refusal = no; step = no_step } }
     {
         StepRead {
             refusal: no,
@@ -40,14 +40,14 @@ impl StepRead {
 }
 
 fn process_of(x: u8) -> ProcessNumber
-    ensures { result ≡ processOf x }
+    ensures { result ≡ process_of x }
 {
     ProcessNumber(x as u32)
 }
 
 // 11, 12 and 13: what the reader and the writer ask alike.
 fn step_limits(most: u32, step: Step) -> u32
-    ensures { result ≡ stepLimits most step }
+    ensures { result ≡ step_limits most step }
 {
     if step.process.0 < 1 {
         return 11;
@@ -66,7 +66,7 @@ fn step_limits(most: u32, step: Step) -> u32
 
 // The step that s begins with, for processes 1 to `most`.
 pub fn read_step_of(most: u32, s: &[u8]) -> StepRead
-    ensures { result ≡ stepRead most s.now }
+    ensures { result ≡ step_read most s.now }
 {
     if s.len() < 8 {
         return StepRead::refused(9);
@@ -91,14 +91,14 @@ pub fn read_step_of(most: u32, s: &[u8]) -> StepRead
 
 // The step that s begins with.
 pub fn read_step(s: &[u8]) -> StepRead
-    ensures { result ≡ stepRead mostProcesses s.now }
+    ensures { result ≡ step_read most_processes s.now }
 {
     read_step_of(Trace::PROCESSES, s)
 }
 
 // 11, 12, 13, 19 of a step that is to be written to a buffer of `room` bytes.
 fn step_write_refusal(step: Step, room: usize) -> u32
-    ensures { result ≡ stepWriteRefusal mostProcesses step room }
+    ensures { result ≡ step_write_refusal most_processes step room }
 {
     let no = step_limits(Trace::PROCESSES, step);
     if no != 0 {
@@ -112,7 +112,7 @@ fn step_write_refusal(step: Step, room: usize) -> u32
 
 // Writes a step over the buffer's first bytes.
 pub fn write_step(step: Step, buffer: &mut [u8]) -> Written
-    ensures { WroteStep mostProcesses step buffer.old result buffer.new }
+    ensures { WroteStep most_processes step buffer.old result buffer.new }
 {
     let no = step_write_refusal(step, buffer.len());
     if no != 0 {

@@ -18,10 +18,10 @@ pub copied : (src dst : List ℕ) → take (length src) src ++ drop (length src)
 copied src dst = rw take-length
 
 -- `bytes::copy(a, buffer)`, and then `bytes::copy(b, &mut buffer[k..])` with k the length of a: both together lie over the front
-pub copied-two : (a b buffer first second : List ℕ) → first ≡ take (length a) a ++ drop (length a) buffer
+pub copied_two : (a b buffer first second : List ℕ) → first ≡ take (length a) a ++ drop (length a) buffer
     → second ≡ take (length b) b ++ drop (length b) (take (length first - length a) (drop (length a) first))
     → put_mid (length a) (length first - length a) first second ≡ overlay (a ++ b) buffer
-copied-two a b buffer first second p q =
+copied_two a b buffer first second p q =
     let n = length first - length a in
     let after : drop n (drop (length a) first) ≡ [] = drop_of_length-le (drop (length a) first) {i = n} (omega (arith, length-drop (length a) first)) in
     let front : first ≡ overlay a buffer = p ∙ copied a buffer in
@@ -31,22 +31,22 @@ copied-two a b buffer first second p q =
 -- PIECES
 
 -- a piece at the beginning lies over the front
-pub spliced-front : (piece s : List ℕ) → spliced 0 piece s ≡ overlay piece s
+pub spliced_front : (piece s : List ℕ) → spliced 0 piece s ≡ overlay piece s
 unfolding spliced
-spliced-front piece s = rw zero-add
+spliced_front piece s = rw zero-add
 
 -- what is put past the front of a buffer leaves the front
-past-front : (front piece s : List ℕ)
+past_front : (front piece s : List ℕ)
     → spliced (length front) piece (front ++ drop (length front) s) ≡ front ++ (piece ++ drop (length front + length piece) s)
 unfolding spliced
-past-front front piece s = rw (take-append_seam, drop-append-add, drop-drop)
+past_front front piece s = rw (take-append_seam, drop-append-add, drop-drop)
 
 -- two pieces one after the other are one
-pub spliced-then : (at : ℕ) (a b s : List ℕ) → at ≤ length s → spliced (at + length a) b (spliced at a s) ≡ spliced at (a ++ b) s
+pub spliced_then : (at : ℕ) (a b s : List ℕ) → at ≤ length s → spliced (at + length a) b (spliced at a s) ≡ spliced at (a ++ b) s
 unfolding spliced
-spliced-then at a b s h =
+spliced_then at a b s h =
     let front : length (take at s ++ a) ≡ at + length a = simp (length-append, length-take) (omega arith) in
     let whole : at + length (a ++ b) ≡ at + length a + length b = omega (arith, length-append a b) in
     let after = b ++ drop (length (take at s ++ a) + length b) s in
     rw (whole, ← append_assoc (take at s) a (drop (at + length a) s), ← front, append_assoc a b)
-    (past-front (take at s ++ a) b s ∙ append_assoc (take at s) a after)
+    (past_front (take at s ++ a) b s ∙ append_assoc (take at s) a after)

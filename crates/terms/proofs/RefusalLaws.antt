@@ -10,21 +10,21 @@ use borrow.Author.Tests.{ltb-false, le-ltb}
 use lib.ListN.{length, get_or, drop, drop_of_length-le}
 use lib.Seq.{drop-cons}
 use lib.Dec.{ltb}
-use Rattle.terms.specs.Refusal.{refuse, ◌then◌, ifAccepted, outside, any_from}
+use Rattle.terms.specs.Refusal.{refuse, ◌then◌, if_accepted, outside, any_from}
 
 -- a test that accepts hands on, and one that refuses decides
-pub then-on : (a b : ℕ) → a ≡ 0 → (a then b) ≡ b
-then-on zero b h = refl
-then-on (suc a) b h = absurd (omega arith)
+pub then_on : (a b : ℕ) → a ≡ 0 → (a then b) ≡ b
+then_on zero b h = refl
+then_on (suc a) b h = absurd (omega arith)
 
-pub then-stop : (a : ℕ) → (a ≡ 0 → ⊥) → (b : ℕ) → (a then b) ≡ a
-then-stop zero h b = absurd (h refl)
-then-stop (suc a) h b = refl
+pub then_stop : (a : ℕ) → (a ≡ 0 → ⊥) → (b : ℕ) → (a then b) ≡ a
+then_stop zero h b = absurd (h refl)
+then_stop (suc a) h b = refl
 
 -- both parts of an accepted table accept
-pub then-both : (a b : ℕ) → (a then b) ≡ 0 → (a ≡ 0) × (b ≡ 0)
-then-both zero b h = (refl, h)
-then-both (suc a) b h = absurd (omega arith)
+pub then_both : (a b : ℕ) → (a then b) ≡ 0 → (a ≡ 0) × (b ≡ 0)
+then_both zero b h = (refl, h)
+then_both (suc a) b h = absurd (omega arith)
 
 pub refuse-false : (k : ℕ) (t : Bool) → refuse (suc k) t ≡ 0 → t ≡ false
 refuse-false k true h = absurd (omega arith)
@@ -32,15 +32,15 @@ refuse-false k false h = refl
 
 -- the last test of an accepted table
 pub passed : (k a : ℕ) (t : Bool) → (a then refuse (suc k) t) ≡ 0 → (a ≡ 0) × (t ≡ false)
-passed k a t h = let both = then-both a (refuse (suc k) t) h in (both.0, refuse-false k t both.1)
+passed k a t h = let both = then_both a (refuse (suc k) t) h in (both.0, refuse-false k t both.1)
 
-pub if-accepted : (k : ℕ) → k ≡ 0 → {A : Type 0} (yea nay : A) → ifAccepted k yea nay ≡ yea
-if-accepted zero h yea nay = refl
-if-accepted (suc k) h yea nay = absurd (omega arith)
+pub if_accepted_lem : (k : ℕ) → k ≡ 0 → {A : Type 0} (yea nay : A) → if_accepted k yea nay ≡ yea
+if_accepted_lem zero h yea nay = refl
+if_accepted_lem (suc k) h yea nay = absurd (omega arith)
 
-pub if-refused : (k : ℕ) → (k ≡ 0 → ⊥) → {A : Type 0} (yea nay : A) → ifAccepted k yea nay ≡ nay
-if-refused zero h yea nay = absurd (h refl)
-if-refused (suc k) h yea nay = refl
+pub if_refused : (k : ℕ) → (k ≡ 0 → ⊥) → {A : Type 0} (yea nay : A) → if_accepted k yea nay ≡ nay
+if_refused zero h yea nay = absurd (h refl)
+if_refused (suc k) h yea nay = refl
 
 pub both_false : (a b : Bool) → (a || b) ≡ false → (a ≡ false) × (b ≡ false)
 both_false true b h = absurd (true≢false h)
@@ -53,8 +53,8 @@ both_true false b h = absurd (false≢true h)
 pub inside : (low high x : ℕ) → low ≤ x → x ≤ high → outside low high x ≡ false
 inside low high x l h = simp (le-ltb x low l, le-ltb high x h)
 
-pub not-outside : (low high x : ℕ) → outside low high x ≡ false → (low ≤ x) × (x ≤ high)
-not-outside low high x e =
+pub not_outside : (low high x : ℕ) → outside low high x ≡ false → (low ≤ x) × (x ≤ high)
+not_outside low high x e =
     let both = both_false (ltb x low) (ltb high x) e in
     (ltb-false x low both.0, ltb-false high x both.1)
 

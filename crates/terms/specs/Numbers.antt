@@ -3,8 +3,8 @@ use Rattle.std.specs.Prelude.{ℕ, ◌-◌}
 use Rattle.terms.specs.declared.ProcessNumber.{ProcessNumber}
 use Rattle.terms.specs.declared.SlotNumber.{SlotNumber}
 
-abbrev pub processOf : ℕ → ProcessNumber
-processOf i = record { 0 = i }
+abbrev pub process_of : ℕ → ProcessNumber
+process_of i = record { 0 = i }
 
 abbrev pub slot_of : ℕ → SlotNumber
 slot_of c = record { 0 = c }

@@ -13,9 +13,9 @@ zero then b = b
 suc a then b = suc a
 
 -- what is answered where a refusal is 0, and where it is not
-abbrev pub ifAccepted : {A : Type 0} → ℕ → A → A → A
-ifAccepted zero yea nay = yea
-ifAccepted (suc k) yea nay = nay
+abbrev pub if_accepted : {A : Type 0} → ℕ → A → A → A
+if_accepted zero yea nay = yea
+if_accepted (suc k) yea nay = nay
 
 -- x is not one of low .. high
 abbrev pub outside : ℕ → ℕ → ℕ → Bool

@@ -1,6 +1,6 @@
 // What every layer of the bench speaks in: process and slot numbers, the limits of a trace and of a wait, numbers in bytes.
 ghost use Rattle.std.specs.Prelude.{◌≡◌, [], ◌∷◌};
-ghost use Rattle.terms.specs.Little.{littleOf, littleBytes};
+ghost use Rattle.terms.specs.Little.{little_of, little_bytes};
 
 // The letter i of document 003: a process, counted from 1.
 #[derive(Drop)]
@@ -38,28 +38,28 @@ impl Wait {
 
 // The number in 2 bytes, the lowest first.
 pub fn u16_of(a: u8, b: u8) -> u16
-    ensures { result ≡ littleOf (a ∷ b ∷ []) }
+    ensures { result ≡ little_of (a ∷ b ∷ []) }
 {
     (a as u16) + 256 * (b as u16)
 }
 
 // The number in 4 bytes, the lowest first.
 pub fn u32_of(a: u8, b: u8, c: u8, d: u8) -> u32
-    ensures { result ≡ littleOf (a ∷ b ∷ c ∷ d ∷ []) }
+    ensures { result ≡ little_of (a ∷ b ∷ c ∷ d ∷ []) }
 {
     (a as u32) + 256 * ((b as u32) + 256 * ((c as u32) + 256 * (d as u32)))
 }
 
 // The 2 bytes of x, the lowest first.
 pub fn u16_bytes(x: u16) -> [u8; 2]
-    ensures { result ≡ littleBytes 2 x }
+    ensures { result ≡ little_bytes 2 x }
 {
     [(x % 256) as u8, (x / 256 % 256) as u8]
 }
 
 // The 4 bytes of x, the lowest first.
 pub fn u32_bytes(x: u32) -> [u8; 4]
-    ensures { result ≡ littleBytes 4 x }
+    ensures { result ≡ little_bytes 4 x }
 {
     let b = x / 256;
     let c = b / 256;

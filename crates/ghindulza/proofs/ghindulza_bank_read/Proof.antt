@@ -6,8 +6,8 @@ use Rattle.ghindulza.proofs.ghindulza_bank_read.Tie as tie
 returns : tie.Need-returns
 returns c = cc
 
-pub ghindulza-bank-read-spec : {M : Type 1} → statement M
-ghindulza-bank-read-spec =
+pub ghindulza_bank_read_spec : {M : Type 1} → statement M
+ghindulza_bank_read_spec =
     tie.close
     (tie.spec
     (λ c κs. search rules)

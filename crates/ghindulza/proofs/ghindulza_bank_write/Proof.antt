@@ -6,8 +6,8 @@ use Rattle.ghindulza.proofs.ghindulza_bank_write.Tie as tie
 returns : tie.Need-returns
 returns c = cc
 
-pub ghindulza-bank-write-spec : {M : Type 1} → statement M
-ghindulza-bank-write-spec =
+pub ghindulza_bank_write_spec : {M : Type 1} → statement M
+ghindulza_bank_write_spec =
     tie.close
     (tie.spec
     (λ c κs. search rules)

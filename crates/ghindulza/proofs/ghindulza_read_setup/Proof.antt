@@ -1,17 +1,17 @@
 -- `ghindulza::ghindulza_read_setup` meets its contract: the outcomes of SetupParts. Assumes nothing.
-use Rattle.ghindulza.proofs.SetupParts.{setup-parts}
+use Rattle.ghindulza.proofs.SetupParts.{setup_parts}
 use borrow.Author.Rules.{rules}
 use Rattle.ghindulza.proofs.ghindulza_read_setup.Statement.{statement}
 use Rattle.ghindulza.proofs.ghindulza_read_setup.Tie as tie
 
 returns : tie.Need-returns
-returns c = search setup-parts
+returns c = search setup_parts
 
 returns-2 : tie.Need-returns-2
-returns-2 c = search setup-parts
+returns-2 c = search setup_parts
 
-pub ghindulza-read-setup-spec : {M : Type 1} → statement M
-ghindulza-read-setup-spec =
+pub ghindulza_read_setup_spec : {M : Type 1} → statement M
+ghindulza_read_setup_spec =
     tie.close
     (tie.spec
     (λ c κs. search rules)
@@ -22,5 +22,5 @@ ghindulza-read-setup-spec =
     returns
     (λ c. search rules)
     (λ c. search rules)
-    (λ c. search setup-parts)
+    (λ c. search setup_parts)
     returns-2)

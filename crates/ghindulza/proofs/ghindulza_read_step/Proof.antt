@@ -6,5 +6,5 @@ use Rattle.ghindulza.proofs.ghindulza_read_step.Tie as tie
 returns : tie.Need-returns
 returns c = cc
 
-pub ghindulza-read-step-spec : {M : Type 1} → statement M
-ghindulza-read-step-spec = tie.close (tie.spec (λ c κs. search rules) returns)
+pub ghindulza_read_step_spec : {M : Type 1} → statement M
+ghindulza_read_step_spec = tie.close (tie.spec (λ c κs. search rules) returns)

@@ -6,5 +6,5 @@ use Rattle.ghindulza.proofs.ghindulza_run.Tie as tie
 returns : tie.Need-returns
 returns c = search rules
 
-pub ghindulza-run-spec : {M : Type 1} → statement M
-ghindulza-run-spec = tie.close (tie.spec (λ c κs. search rules) (λ c. search rules) returns)
+pub ghindulza_run_spec : {M : Type 1} → statement M
+ghindulza_run_spec = tie.close (tie.spec (λ c κs. search rules) (λ c. search rules) returns)

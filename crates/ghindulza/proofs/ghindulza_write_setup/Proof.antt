@@ -6,5 +6,5 @@ use Rattle.ghindulza.proofs.ghindulza_write_setup.Tie as tie
 returns : tie.Need-returns
 returns c = search rules
 
-pub ghindulza-write-setup-spec : {M : Type 1} → statement M
-ghindulza-write-setup-spec = tie.close (tie.spec (λ c κs. search rules) (λ c. search rules) returns)
+pub ghindulza_write_setup_spec : {M : Type 1} → statement M
+ghindulza_write_setup_spec = tie.close (tie.spec (λ c κs. search rules) (λ c. search rules) returns)

@@ -17,5 +17,5 @@ returns-3 c =
     let a = c.before.before.args in
     simp (le-ltb a.k 1 (omega arith), le-ltb a.last a.k (omega arith))
 
-pub is-bad-kind-spec : {M : Type 1} → statement M
-is-bad-kind-spec = tie.close (tie.spec returns returns-2 returns-3)
+pub is_bad_kind_spec : {M : Type 1} → statement M
+is_bad_kind_spec = tie.close (tie.spec returns returns-2 returns-3)

@@ -30,5 +30,5 @@ returns-2 c = first c.before.before.args.k c.if1.true
 returns-3 : tie.Need-returns-3
 returns-3 c = last c.before.before.args.k c.if1.false c.before.match.rest.1
 
-pub kind-of-spec : {M : Type 1} → statement M
-kind-of-spec = tie.close (tie.spec returns returns-2 returns-3)
+pub kind_of_spec : {M : Type 1} → statement M
+kind_of_spec = tie.close (tie.spec returns returns-2 returns-3)

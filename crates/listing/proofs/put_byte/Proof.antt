@@ -7,8 +7,8 @@ use Rattle.listing.proofs.put_byte.Tie as tie
 returns : tie.Need-returns
 returns c = let a = c.args in put_one a.b a.at a.text.now c.requires
 
-pub put-byte-spec : {M : Type 1} → statement M
-put-byte-spec =
+pub put_byte_spec : {M : Type 1} → statement M
+put_byte_spec =
     tie.close
     (tie.spec
     (λ c. search rules)

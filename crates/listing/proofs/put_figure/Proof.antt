@@ -8,10 +8,10 @@ returns : tie.Need-returns
 returns c =
     let after = c.before.before in
     let number = after.before.before.before.before in
-    put_then number.put-number.ensures after.put_byte.ensures
+    put_then number.put_number.ensures after.put_byte.ensures
 
-pub put-figure-spec : {M : Type 1} → statement M
-put-figure-spec =
+pub put_figure_spec : {M : Type 1} → statement M
+put_figure_spec =
     tie.close
     (tie.spec
     (λ c κs. search rules)

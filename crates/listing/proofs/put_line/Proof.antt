@@ -16,8 +16,8 @@ returns c =
     let four = put_then (put_then two second.put-figure3.ensures) moves.put-figure4.ensures in
     simp append_assoc at (put_then four lates.put-figure5.ensures)
 
-pub put-line-spec : {M : Type 1} → statement M
-put-line-spec =
+pub put_line_spec : {M : Type 1} → statement M
+put_line_spec =
     tie.close
     (tie.spec
     (λ c. search rules)

@@ -1,8 +1,8 @@
 -- `put_lines` meets its contract. The loop's invariant: the lines of the first j processes stand in the buffer.
 -- Assumes nothing.
-use Rattle.listing.proofs.PutLaws.{put_then, put_is, put-within, put-none, lines_more}
-use Rattle.listing.specs.Sizes.{lineBytes}
-use Rattle.listing.specs.Text.{processLines}
+use Rattle.listing.proofs.PutLaws.{put_then, put_is, put_within, put_none, lines_more}
+use Rattle.listing.specs.Sizes.{line_bytes}
+use Rattle.listing.specs.Text.{process_lines}
 use Rattle.listing.specs.Put.{Put}
 use native.Mathlib.Omega.{arith}
 use lib.ListN.{length}
@@ -13,16 +13,16 @@ use Rattle.listing.proofs.put_lines.Tie as tie
 
 abbrev invariant-loop : tie.invariant-loop
 invariant-loop report n at text₀ next₀ j₀ text next j =
-    Put (lineBytes * j) at (processLines report j) text₀ next text × (j ≤ n) × (length text ≡ length text₀)
+    Put (line_bytes * j) at (process_lines report j) text₀ next text × (j ≤ n) × (length text ≡ length text₀)
 
 abbrev decreases-loop : tie.decreases-loop
 decreases-loop report n at text₀ next₀ j₀ text next j = n - j
 
 loop-holds : tie.Need-loop-init invariant-loop decreases-loop
-unfolding processLines
+unfolding process_lines
 loop-holds c =
     let start = c.before in
-    (put-none start.args.at start.args.text.now (omega arith), omega arith, refl)
+    (put_none start.args.at start.args.text.now (omega arith), omega arith, refl)
 
 loop-again : tie.Need-loop-preserved invariant-loop decreases-loop
 loop-again c =
@@ -32,7 +32,7 @@ loop-again c =
     let j = looping.loop.j in
     let both = put_then looping.loop.invariant.0 line.put-line.ensures in
     let more = put_is both (lines_more start.args.report.now j) in
-    (put-within more (lineBytes * (j + 1)) (omega arith), omega arith, omega arith)
+    (put_within more (line_bytes * (j + 1)) (omega arith), omega arith, omega arith)
 
 returns : tie.Need-returns invariant-loop decreases-loop
 returns c =
@@ -41,8 +41,8 @@ returns c =
     let all : looping.loop.j ≡ start.args.n = omega arith in
     rw (← all) looping.loop.invariant.0
 
-pub put-lines-spec : {M : Type 1} → statement M
-put-lines-spec =
+pub put_lines_spec : {M : Type 1} → statement M
+put_lines_spec =
     tie.close
     (tie.spec
     invariant-loop

@@ -1,9 +1,9 @@
 -- `put_ran` meets its contract: the two cases of the text of a run. Assumes nothing.
-use Rattle.listing.proofs.TextLaws.{text-accepted, text-refused}
-use Rattle.listing.proofs.PutLaws.{put_then, put_is, put-within}
-use Rattle.terms.specs.Limits.{mostProcesses}
+use Rattle.listing.proofs.TextLaws.{text_accepted, text_refused}
+use Rattle.listing.proofs.PutLaws.{put_then, put_is, put_within}
+use Rattle.terms.specs.Limits.{most_processes}
 use Rattle.model.specs.Report.{Ran}
-use Rattle.listing.specs.Sizes.{textBytes}
+use Rattle.listing.specs.Sizes.{text_bytes}
 use Prim.Native.Nat.{◌≤◌}
 use native.Mathlib.Omega.{arith}
 use borrow.Author.Rules.{rules}
@@ -17,11 +17,11 @@ returns c =
     let refused = put.before.before in
     let a = refused.before.before.before.before.args in
     let ran : Ran = record { outcome = a.ran; report = a.report.now } in
-    let told = put_is put.Put-refused.ensures (text-refused a.input.now ran refused.if1.true) in
-    put-within told textBytes (omega arith)
+    let told = put_is put.Put-refused.ensures (text_refused a.input.now ran refused.if1.true) in
+    put_within told text_bytes (omega arith)
 
 -- the report holds the lines of at most so many processes
-room : (c : tie.After-byte-at2) → c.byte-at2.result ≤ mostProcesses
+room : (c : tie.After-byte-at2) → c.byte-at2.result ≤ most_processes
 room c =
     let accepted = c.before.before in
     let start = accepted.before.before.before.before in
@@ -42,12 +42,12 @@ returns-2 c =
     let a = accepted.before.before.before.before.args in
     let ran : Ran = record { outcome = a.ran; report = a.report.now } in
     let both = put_then head.put-head.ensures lines.put-lines.ensures in
-    let is = text-accepted a.input.now ran read.before.byte_at.ensures read.byte-at2.ensures accepted.if1.false in
+    let is = text_accepted a.input.now ran read.before.byte_at.ensures read.byte-at2.ensures accepted.if1.false in
     let told = put_is both is in
-    put-within told textBytes (omega (arith, room read))
+    put_within told text_bytes (omega (arith, room read))
 
-pub put-ran-spec : {M : Type 1} → statement M
-put-ran-spec =
+pub put_ran_spec : {M : Type 1} → statement M
+put_ran_spec =
     tie.close
     (tie.spec
     (λ c κs. search rules)

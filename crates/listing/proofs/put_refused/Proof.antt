@@ -7,14 +7,14 @@ use Rattle.listing.proofs.put_refused.Tie as tie
 returns : tie.Need-returns
 returns c =
     let index = c.before.before in
-    let atRecordWord = index.before.before.before.before in
-    let number = atRecordWord.before.before.before.before.before in
-    let refusedWord = number.before.before.before.before in
-    let two = put_then refusedWord.put_word.ensures number.put-number.ensures in
-    put_then (put_then two atRecordWord.put-word2.ensures) index.put-figure.ensures
+    let at_record_word = index.before.before.before.before in
+    let number = at_record_word.before.before.before.before.before in
+    let refused_word = number.before.before.before.before in
+    let two = put_then refused_word.put_word.ensures number.put_number.ensures in
+    put_then (put_then two at_record_word.put-word2.ensures) index.put-figure.ensures
 
-pub put-refused-spec : {M : Type 1} → statement M
-put-refused-spec =
+pub put_refused_spec : {M : Type 1} → statement M
+put_refused_spec =
     tie.close
     (tie.spec
     (λ c. search rules)

@@ -13,8 +13,8 @@ returns-2 c = search refusals
 returns-3 : tie.Need-returns-3
 returns-3 c = search refusals
 
-pub call-refusal-spec : {M : Type 1} → statement M
-call-refusal-spec =
+pub call_refusal_spec : {M : Type 1} → statement M
+call_refusal_spec =
     tie.close
     (tie.spec
     (λ c κs. search rules)

@@ -10,6 +10,6 @@ returns c = search refusals
 returns-2 : tie.Need-returns-2
 returns-2 c = search refusals
 
-pub read-refusal-spec : {M : Type 1} → statement M
-read-refusal-spec =
+pub read_refusal_spec : {M : Type 1} → statement M
+read_refusal_spec =
     tie.close (tie.spec (λ c κs. search rules) returns (λ c κs. search rules) returns-2)

@@ -9,5 +9,5 @@ returns c = search refusals
 returns-2 : tie.Need-returns-2
 returns-2 c = search refusals
 
-pub slot-refusal-spec : {M : Type 1} → statement M
-slot-refusal-spec = tie.close (tie.spec returns returns-2)
+pub slot_refusal_spec : {M : Type 1} → statement M
+slot_refusal_spec = tie.close (tie.spec returns returns-2)

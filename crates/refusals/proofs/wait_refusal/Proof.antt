@@ -12,5 +12,5 @@ returns-2 c = search refusals
 returns-3 : tie.Need-returns-3
 returns-3 c = search refusals
 
-pub wait-refusal-spec : {M : Type 1} → statement M
-wait-refusal-spec = tie.close (tie.spec returns returns-2 returns-3)
+pub wait_refusal_spec : {M : Type 1} → statement M
+wait_refusal_spec = tie.close (tie.spec returns returns-2 returns-3)

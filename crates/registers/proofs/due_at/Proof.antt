@@ -9,5 +9,5 @@ returns c = search outcomes
 returns-2 : tie.Need-returns-2
 returns-2 c = search outcomes
 
-pub due-at-spec : {M : Type 1} → statement M
-due-at-spec = tie.close (tie.spec returns (λ c. search outcomes) returns-2)
+pub due_at_spec : {M : Type 1} → statement M
+due_at_spec = tie.close (tie.spec returns (λ c. search outcomes) returns-2)

@@ -7,8 +7,8 @@ use Rattle.registers.proofs.read_granted.Tie as tie
 returns : tie.Need-returns
 returns c = search outcomes
 
-pub read-granted-spec : {M : Type 1} → statement M
-read-granted-spec =
+pub read_granted_spec : {M : Type 1} → statement M
+read_granted_spec =
     tie.close
     (tie.spec
     (λ c κs. search rules)

@@ -10,8 +10,8 @@ returns c = search outcomes
 returns-2 : tie.Need-returns-2
 returns-2 c = search outcomes
 
-pub write-granted-spec : {M : Type 1} → statement M
-write-granted-spec =
+pub write_granted_spec : {M : Type 1} → statement M
+write_granted_spec =
     tie.close
     (tie.spec
     (λ c κs. search rules)

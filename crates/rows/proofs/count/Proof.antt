@@ -1,6 +1,6 @@
 -- `rows::count` meets its contract.
 -- Assumes nothing.
-use Rattle.rows.specs.Rows.{row_in, movesField, latesField, number_at, added, position}
+use Rattle.rows.specs.Rows.{row_in, moves_field, lates_field, number_at, added, position}
 use lib.Seq.{get_or-set_other, set-get_or}
 use native.Mathlib.Nat.{add-zero}
 use native.Mathlib.Omega.{arith}
@@ -17,7 +17,7 @@ unfolding row_in
 add-rows-5 c =
     let start = c.before.before.before in
     let a = start.args in
-    rw (get_or-set_other a.rows.now (position a.j movesField) (position a.j latesField) _ 0 (λ e. absurd (omega arith)))
+    rw (get_or-set_other a.rows.now (position a.j moves_field) (position a.j lates_field) _ 0 (λ e. absurd (omega arith)))
     (omega (arith, start.requires.1.lates))
 
 returns : tie.Need-returns
@@ -26,8 +26,8 @@ returns c = rw c.before.if1.true
 returns-2 : tie.Need-returns-2
 returns-2 c =
     let a = c.before.before.args in
-    let moved = added a.rows.now a.j movesField 1 in
-    rw (c.if1.false, add-zero (number_at moved a.j latesField), set-get_or moved (position a.j latesField) 0)
+    let moved = added a.rows.now a.j moves_field 1 in
+    rw (c.if1.false, add-zero (number_at moved a.j lates_field), set-get_or moved (position a.j lates_field) 0)
 
 pub count_spec : {M : Type 1} → statement M
 count_spec =

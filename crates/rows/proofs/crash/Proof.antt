@@ -8,8 +8,8 @@ use Rattle.rows.proofs.crash.Tie as tie
 returns : tie.Need-returns
 returns c = refl
 
-pub crash-spec : {M : Type 1} → statement M
-crash-spec =
+pub crash_spec : {M : Type 1} → statement M
+crash_spec =
     tie.close
     (tie.spec
     (λ c. search rules)

@@ -10,8 +10,8 @@ returns : tie.Need-returns
 unfolding row_in
 returns c = refl
 
-pub decided-spec : {M : Type 1} → statement M
-decided-spec =
+pub decided_spec : {M : Type 1} → statement M
+decided_spec =
     tie.close
     (tie.spec
     (λ c. search rules)

@@ -10,8 +10,8 @@ returns : tie.Need-returns
 unfolding row_in
 returns c = refl
 
-pub is-crashed-spec : {M : Type 1} → statement M
-is-crashed-spec =
+pub is_crashed_spec : {M : Type 1} → statement M
+is_crashed_spec =
     tie.close
     (tie.spec
     (λ c. search rules)

@@ -10,8 +10,8 @@ returns : tie.Need-returns
 unfolding row_in
 returns c = refl
 
-pub lates-spec : {M : Type 1} → statement M
-lates-spec =
+pub lates_spec : {M : Type 1} → statement M
+lates_spec =
     tie.close
     (tie.spec
     (λ c. search rules)

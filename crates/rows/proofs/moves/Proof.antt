@@ -10,8 +10,8 @@ returns : tie.Need-returns
 unfolding row_in
 returns c = refl
 
-pub moves-spec : {M : Type 1} → statement M
-moves-spec =
+pub moves_spec : {M : Type 1} → statement M
+moves_spec =
     tie.close
     (tie.spec
     (λ c. search rules)

@@ -9,8 +9,8 @@ returns : tie.Need-returns
 unfolding row_in
 returns c = c.place_of.ensures
 
-pub place-spec : {M : Type 1} → statement M
-place-spec =
+pub place_spec : {M : Type 1} → statement M
+place_spec =
     tie.close
     (tie.spec
     (λ c. search rules)

@@ -43,7 +43,7 @@ returns-9 c =
       ne_eqb _ _ high.1,
     )
 
-pub place-of-spec : {M : Type 1} → statement M
-place-of-spec =
+pub place_of_spec : {M : Type 1} → statement M
+place_of_spec =
     tie.close
     (tie.spec returns returns-2 returns-3 returns-4 returns-5 returns-6 returns-7 returns-8 returns-9)

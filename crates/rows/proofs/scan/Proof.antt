@@ -10,8 +10,8 @@ returns : tie.Need-returns
 unfolding row_in
 returns c = refl
 
-pub scan-spec : {M : Type 1} → statement M
-scan-spec =
+pub scan_spec : {M : Type 1} → statement M
+scan_spec =
     tie.close
     (tie.spec
     (λ c. search rules)

@@ -7,8 +7,8 @@ use Rattle.rows.proofs.to.Tie as tie
 returns : tie.Need-returns
 returns c = rw c.code.ensures
 
-pub to-spec : {M : Type 1} → statement M
-to-spec =
+pub to_spec : {M : Type 1} → statement M
+to_spec =
     tie.close
     (tie.spec
     (λ c κs. search rules)

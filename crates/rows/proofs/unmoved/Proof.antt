@@ -7,8 +7,8 @@ use Rattle.rows.proofs.unmoved.Tie as tie
 returns : tie.Need-returns
 returns c = rw c.code.ensures
 
-pub unmoved-spec : {M : Type 1} → statement M
-unmoved-spec =
+pub unmoved_spec : {M : Type 1} → statement M
+unmoved_spec =
     tie.close
     (tie.spec
     (λ c κs. search rules)

@@ -10,8 +10,8 @@ returns : tie.Need-returns
 unfolding row_in
 returns c = refl
 
-pub wake-spec : {M : Type 1} → statement M
-wake-spec =
+pub wake_spec : {M : Type 1} → statement M
+wake_spec =
     tie.close
     (tie.spec
     (λ c. search rules)

@@ -6,13 +6,13 @@ use native.Mathlib.Omega.{arith}
 use borrow.Author.Rules.{rules}
 use lib.ListN.{length, drop, get_or}
 use Rattle.terms.proofs.RefusalLaws.{any_next, any_none}
-use Rattle.setups.specs.Setup.{noStart}
-use Rattle.setups.proofs.SetupLaws.{anyNoStart, starts-rule}
+use Rattle.setups.specs.Setup.{no_start}
+use Rattle.setups.proofs.SetupLaws.{any_no_start, starts_rule}
 use Rattle.setups.proofs.any_bad_start.Statement.{statement}
 use Rattle.setups.proofs.any_bad_start.Tie as tie
 
 abbrev invariant-loop : tie.invariant-loop
-invariant-loop size spare s proposal bad₀ i₀ bad i = (i ≤ length s) × (anyNoStart proposal size 0 s ≡ (bad || anyNoStart proposal size i (drop i s)))
+invariant-loop size spare s proposal bad₀ i₀ bad i = (i ≤ length s) × (any_no_start proposal size 0 s ≡ (bad || any_no_start proposal size i (drop i s)))
 
 abbrev decreases-loop : tie.decreases-loop
 decreases-loop size spare s proposal bad₀ i₀ bad i = length s - i
@@ -30,8 +30,8 @@ loop-again c =
     let x = get_or s l.i 0 in (
       omega arith,
       cc (
-        any_next (λ j. noStart proposal a.size) s l.i (omega arith),
-        or_assoc l.bad (noStart proposal a.size x) (anyNoStart proposal a.size (l.i + 1) (drop (l.i + 1) s)),
+        any_next (λ j. no_start proposal a.size) s l.i (omega arith),
+        or_assoc l.bad (no_start proposal a.size x) (any_no_start proposal a.size (l.i + 1) (drop (l.i + 1) s)),
       ),
     )
 
@@ -42,11 +42,11 @@ returns c =
     let a = f.before.before.args in
     let s = a.s.now in
     let proposal = f.is-proposing.result in
-    let found : l.bad ≡ anyNoStart proposal a.size 0 s = cc (any_none (λ j. noStart proposal a.size) s l.i (omega arith), or-false l.bad) in
-    found ∙ ap (λ (b : Bool). anyNoStart b a.size 0 s) f.is-proposing.ensures ∙ starts-rule a.kind (length s) a.size a.spare 0 s
+    let found : l.bad ≡ any_no_start proposal a.size 0 s = cc (any_none (λ j. no_start proposal a.size) s l.i (omega arith), or-false l.bad) in
+    found ∙ ap (λ (b : Bool). any_no_start b a.size 0 s) f.is-proposing.ensures ∙ starts_rule a.kind (length s) a.size a.spare 0 s
 
-pub any-bad-start-spec : {M : Type 1} → statement M
-any-bad-start-spec =
+pub any_bad_start_spec : {M : Type 1} → statement M
+any_bad_start_spec =
     tie.close
     (tie.spec
     invariant-loop

@@ -9,9 +9,9 @@ use borrow.Author.Tests.{lt-ltb, le-ltb, eq-eqb, ne_eqb}
 use lib.Dec.{ltb}
 use lib.ListN.{length}
 use Rattle.terms.specs.Refusal.{refuse, ◌then◌}
-use Rattle.terms.proofs.RefusalLaws.{then-stop}
+use Rattle.terms.proofs.RefusalLaws.{then_stop}
 use Rattle.records.specs.Record.{byte, marked}
-use Rattle.setups.specs.Setup.{setupMark, setupLimits}
+use Rattle.setups.specs.Setup.{setup_mark, setup_limits}
 use Rattle.setups.proofs.head_refusal.Statement.{statement}
 use Rattle.setups.proofs.head_refusal.Tie as tie
 
@@ -39,7 +39,7 @@ module _ (c : tie.After-setup-limits) where
   abbrev s : List ℕ
   s = (start (eight (first_byte at_mark))).args.trace.now
 
-  so_far : (refuse 1 (ltb (length s) 8) then refuse 2 (not (marked setupMark s)) then setupLimits most (byte 2 s) (byte 3 s) (byte 4 s) (byte 5 s))
+  so_far : (refuse 1 (ltb (length s) 8) then refuse 2 (not (marked setup_mark s)) then setup_limits most (byte 2 s) (byte 3 s) (byte 4 s) (byte 5 s))
       ≡ c.setup-limits.result
   so_far =
       let m = at_mark in
@@ -69,7 +69,7 @@ returns-3 c =
     simp (le-ltb (length s) 8 (omega arith), eq-eqb _ _ m.if2.false, ne_eqb _ _ c.if3.true)
 
 returns-4 : tie.Need-returns-4
-returns-4 c = simp (so_far c.before, then-stop _ c.if4.true)
+returns-4 c = simp (so_far c.before, then_stop _ c.if4.true)
 
 returns-5 : tie.Need-returns-5
 returns-5 c =
@@ -83,8 +83,8 @@ returns-6 c =
     let whole = rw (at_count l).wide.ensures at c.if5.false in
     simp (so_far l, c.before.if4.false, le-ltb _ _ whole)
 
-pub head-refusal-spec : {M : Type 1} → statement M
-head-refusal-spec =
+pub head_refusal_spec : {M : Type 1} → statement M
+head_refusal_spec =
     tie.close
     (tie.spec
     returns

@@ -13,5 +13,5 @@ returns-2 c = rw c.before.if1.true (rw (le-ltb c.before.before.args.x 1 (omega a
 returns-3 : tie.Need-returns-3
 returns-3 c = rw c.if1.false
 
-pub is-no-start-spec : {M : Type 1} → statement M
-is-no-start-spec = tie.close (tie.spec returns returns-2 returns-3)
+pub is_no_start_spec : {M : Type 1} → statement M
+is_no_start_spec = tie.close (tie.spec returns returns-2 returns-3)

@@ -6,13 +6,13 @@ use native.Mathlib.Nat.{add-sub_cancel_left}
 use native.Mathlib.Omega.{arith}
 use borrow.Author.Rules.{rules}
 use lib.ListN.{length-take, length-drop}
-use Rattle.terms.specs.Limits.{mostProcesses}
+use Rattle.terms.specs.Limits.{most_processes}
 use Rattle.kinds.specs.declared.Kind.{Kind}
 use Rattle.kinds.specs.Kinds.{kind_of}
 use Rattle.records.specs.Record.{byte}
-use Rattle.setups.specs.Setup.{headRefusal, startBytes, startsOf}
-use Rattle.setups.proofs.Outcomes.{read_head, read-starts, read_whole}
-use Rattle.setups.proofs.SetupLaws.{Head, head-said}
+use Rattle.setups.specs.Setup.{head_refusal, start_bytes, starts_of}
+use Rattle.setups.proofs.Outcomes.{read_head, read_starts, read_whole}
+use Rattle.setups.proofs.SetupLaws.{Head, head_said}
 use Rattle.setups.proofs.read_setup.Statement.{statement}
 use Rattle.setups.proofs.read_setup.Tie as tie
 
@@ -21,11 +21,11 @@ module _ (c : tie.Else1) where
   abbrev trace : List ℕ
   trace = c.before.before.before.args.trace.now
 
-  accepted : headRefusal mostProcesses trace ≡ 0
+  accepted : head_refusal most_processes trace ≡ 0
   accepted = sym c.before.head-refusal.ensures ∙ c.if1.false
 
-  head : Head mostProcesses trace
-  head = head-said _ _ accepted
+  head : Head most_processes trace
+  head = head_said _ _ accepted
 
 -- the way back to that test: from n, from the kind, from the call of `starts_of`
 abbrev counted : tie.After-wide → tie.Else1
@@ -40,14 +40,14 @@ called c = c.before.before.before
 -- what was called
 starts-called : (c : tie.After-starts-of)
     → let s = trace (kinded (called c)) in
-    c.starts-of.result ≡ startsOf mostProcesses (kind_of (byte 2 s)) (byte 4 s) (byte 5 s) (startBytes s)
+    c.starts-of.result ≡ starts_of most_processes (kind_of (byte 2 s)) (byte 4 s) (byte 5 s) (start_bytes s)
 starts-called c =
     let k = called c in
     let s = trace (kinded k) in
     let kind : k.kind-of.result ≡ kind_of (byte 2 s) = k.kind-of.ensures ∙ ap kind_of k.before.number.ensures in
     c.starts-of.ensures
     ∙ (simp (k.before.before.wide.ensures, add-sub_cancel_left))
-    ∙ ap (λ (κ : Kind). startsOf mostProcesses κ (byte 4 s) (byte 5 s) (startBytes s)) kind
+    ∙ ap (λ (κ : Kind). starts_of most_processes κ (byte 4 s) (byte 5 s) (start_bytes s)) kind
 
 returns : tie.Need-returns
 returns c =
@@ -62,20 +62,20 @@ starts-of-requires c κs =
 returns-2 : tie.Need-returns-2
 returns-2 c =
     let d = c.before.before in
-    c.refused2.ensures ∙ read-starts _ _ _ (accepted (kinded (called d))) (starts-called d) c.before.if2.true
+    c.refused2.ensures ∙ read_starts _ _ _ (accepted (kinded (called d))) (starts-called d) c.before.if2.true
 
 returns-3 : tie.Need-returns-3
 returns-3 c =
     let e = c.before.before.before.before.before in
     let d = e.before in
-    simp c.u16-of.ensures (read_whole _ _ _ (accepted (kinded (called d))) (starts-called d) e.if2.false)
+    simp c.u16_of.ensures (read_whole _ _ _ (accepted (kinded (called d))) (starts-called d) e.if2.false)
 
 -- the head again, where n and Δ are read
-abbrev whole : (c : tie.After-starts) → Head mostProcesses (trace (kinded (called c.before.before)))
+abbrev whole : (c : tie.After-starts) → Head most_processes (trace (kinded (called c.before.before)))
 whole c = head (kinded (called c.before.before))
 
-pub read-setup-spec : {M : Type 1} → statement M
-read-setup-spec =
+pub read_setup_spec : {M : Type 1} → statement M
+read_setup_spec =
     tie.close
     (tie.spec
     (λ c κs. search rules)

@@ -6,12 +6,12 @@ use native.Mathlib.Nat.{zero-add}
 use native.Mathlib.Omega.{arith}
 use borrow.Author.Rules.{rules}
 use lib.ListN.{length, drop}
-use Rattle.terms.specs.Limits.{mostProcesses}
+use Rattle.terms.specs.Limits.{most_processes}
 use Rattle.terms.proofs.Parts.{part_to_end}
 use Rattle.records.specs.Record.{byte}
-use Rattle.setups.specs.Setup.{setupRefusal}
+use Rattle.setups.specs.Setup.{setup_refusal}
 use Rattle.setups.specs.declared.Setup.{Setup}
-use Rattle.setups.proofs.SetupLaws.{setup-said, setup-refusal-read, setup-fields-read, rest-accepted, rest-refused}
+use Rattle.setups.proofs.SetupLaws.{setup_said, setup_refusal_read, setup_fields_read, rest_accepted, rest_refused}
 use Rattle.setups.proofs.setup_rest.Statement.{statement}
 use Rattle.setups.proofs.setup_rest.Tie as tie
 
@@ -20,31 +20,31 @@ module _ (c : tie.After-wide) where
   abbrev trace : List ℕ
   trace = c.before.before.before.before.before.args.trace.now
 
-  accepted : setupRefusal mostProcesses trace ≡ 0
-  accepted = setup-refusal-read _ _ _ c.before.before.before.read-setup.ensures ∙ c.before.if1.false
+  accepted : setup_refusal most_processes trace ≡ 0
+  accepted = setup_refusal_read _ _ _ c.before.before.before.read_setup.ensures ∙ c.before.if1.false
 
   count : c.wide.result ≡ byte 3 trace
   count =
-      let fields = setup-fields-read _ _ _ c.before.before.before.read-setup.ensures c.before.if1.false in
+      let fields = setup_fields_read _ _ _ c.before.before.before.read_setup.ensures c.before.if1.false in
       c.wide.ensures ∙ ap (λ (x : Setup). x.processes) fields
 
   end : 8 + c.wide.result ≤ length trace
-  end = rw count (setup-said _ trace accepted).head.whole
+  end = rw count (setup_said _ trace accepted).head.whole
 
 returns : tie.Need-returns
 returns c =
-    let r = rest-refused _ _ _ (setup-refusal-read _ _ _ c.before.before.before.read-setup.ensures) c.before.if1.true in
+    let r = rest_refused _ _ _ (setup_refusal_read _ _ _ c.before.before.before.read_setup.ensures) c.before.if1.true in
     (sym r.0, simp (r.1, zero-add))
 
 returns-2 : tie.Need-returns-2
 returns-2 c =
     let d = c.before in
-    let r = rest-accepted _ _ (accepted d) in
+    let r = rest_accepted _ _ (accepted d) in
     let past : 8 + d.wide.result ≡ 8 + byte 3 (trace d) = ap (λ (n : ℕ). 8 + n) (count d) in
     (part_to_end (8 + d.wide.result) (trace d) ∙ ap (λ (k : ℕ). drop k (trace d)) past ∙ sym r.0, simp (count d, r.1))
 
-pub setup-rest-spec : {M : Type 1} → statement M
-setup-rest-spec =
+pub setup_rest_spec : {M : Type 1} → statement M
+setup_rest_spec =
     tie.close
     (tie.spec
     (λ c κs. search rules)

@@ -14,8 +14,8 @@ returns-2 c =
     let a = good.before.before.before.args in
     simp (sym good.before.any-bad-start.ensures ∙ good.if1.false, c.before.copy.ensures.1) (rw (take-length a.s.now))
 
-pub starts-of-spec : {M : Type 1} → statement M
-starts-of-spec =
+pub starts_of_spec : {M : Type 1} → statement M
+starts_of_spec =
     tie.close
     (tie.spec
     (λ c κs. search rules)

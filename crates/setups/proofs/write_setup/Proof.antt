@@ -5,11 +5,11 @@ use Prim.Native.Nat.{ℕ, ◌≤◌}
 use native.Mathlib.Omega.{arith}
 use borrow.Author.Rules.{rules}
 use lib.ListN.{length-take, length-drop, length}
-use Rattle.terms.specs.Limits.{mostProcesses, mostSlots}
-use Rattle.terms.proofs.OverlayLaws.{copied-two}
-use Rattle.setups.specs.Setup.{setupHead, setupWriteRefusal}
-use Rattle.records.proofs.RecordLaws.{wrote-refused, wrote-accepted}
-use Rattle.setups.proofs.SetupLaws.{WritableSetup, setup-write-said, limits-size}
+use Rattle.terms.specs.Limits.{most_processes, most_slots}
+use Rattle.terms.proofs.OverlayLaws.{copied_two}
+use Rattle.setups.specs.Setup.{setup_head, setup_write_refusal}
+use Rattle.records.proofs.RecordLaws.{wrote_refused, wrote_accepted}
+use Rattle.setups.proofs.SetupLaws.{WritableSetup, setup_write_said, limits_size}
 use Rattle.setups.proofs.write_setup.Statement.{statement}
 use Rattle.setups.proofs.write_setup.Tie as tie
 
@@ -30,14 +30,14 @@ module _ (c : tie.Else1) where
   abbrev room : ℕ
   room = length start.args.buffer.now
 
-  accepted : setupWriteRefusal mostProcesses kind size starts room ≡ 0
+  accepted : setup_write_refusal most_processes kind size starts room ≡ 0
   accepted = sym c.before.setup-write-refusal.ensures ∙ c.if1.false
 
-  writable : WritableSetup mostProcesses kind size starts room
-  writable = setup-write-said mostProcesses kind size starts room accepted
+  writable : WritableSetup most_processes kind size starts room
+  writable = setup_write_said most_processes kind size starts room accepted
 
-  small : size ≤ mostSlots
-  small = (limits-size mostProcesses kind (length starts) size 0 writable.limits).1
+  small : size ≤ most_slots
+  small = (limits_size most_processes kind (length starts) size 0 writable.limits).1
 
 -- the way back from each copy
 abbrev at_head : tie.After-copy-arg → tie.Else1
@@ -50,7 +50,7 @@ abbrev copied : tie.After-copy → tie.Else1
 copied c = at_head c.before
 
 returns : tie.Need-returns
-returns c = wrote-refused _ _ _ _ _ _ (sym c.before.setup-write-refusal.ensures) c.if1.true refl refl
+returns c = wrote_refused _ _ _ _ _ _ (sym c.before.setup-write-refusal.ensures) c.if1.true refl refl
 
 copy-requires : tie.Need-copy-requires
 copy-requires c κs = omega (arith, writable (at_head c))
@@ -65,21 +65,21 @@ returns-2 c =
     let second = c.before.before in
     let first = at-starts second.before.before in
     let l = copied first in
-    wrote-accepted _ _ _ _ _ _
+    wrote_accepted _ _ _ _ _ _
     (accepted l)
     refl
     (omega arith)
-    (copied-two
-    (setupHead (kind l) (length (starts l)) (size l) (start l).args.delta)
+    (copied_two
+    (setup_head (kind l) (length (starts l)) (size l) (start l).args.delta)
     (starts l)
     (start l).args.buffer.now
     _
     _
-    (first.copy.ensures.1 ∙ simp first.before.before.before.u16-bytes.ensures)
+    (first.copy.ensures.1 ∙ simp first.before.before.before.u16_bytes.ensures)
     second.copy2.ensures.1)
 
-pub write-setup-spec : {M : Type 1} → statement M
-write-setup-spec =
+pub write_setup_spec : {M : Type 1} → statement M
+write_setup_spec =
     tie.close
     (tie.spec
     (λ c κs. search rules)

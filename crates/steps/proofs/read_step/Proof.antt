@@ -4,7 +4,7 @@ use Rattle.steps.proofs.read_step.Statement.{statement}
 use Rattle.steps.proofs.read_step.Tie as tie
 
 returns : tie.Need-returns
-returns c = c.read-step-of.ensures
+returns c = c.read_step_of.ensures
 
-pub read-step-spec : {M : Type 1} → statement M
-read-step-spec = tie.close (tie.spec (λ c κs. search rules) returns)
+pub read_step_spec : {M : Type 1} → statement M
+read_step_spec = tie.close (tie.spec (λ c κs. search rules) returns)

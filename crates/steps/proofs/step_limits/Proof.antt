@@ -3,7 +3,7 @@ use mathlib.Core.Path.{◌≡◌}
 use mathlib.Core.Bool.{false}
 use native.Mathlib.Omega.{arith}
 use borrow.Author.Tests.{lt-ltb, le-ltb}
-use Rattle.terms.specs.Limits.{topTick}
+use Rattle.terms.specs.Limits.{top_tick}
 use Rattle.terms.specs.Refusal.{outside}
 use Rattle.terms.proofs.RefusalLaws.{inside}
 use Rattle.steps.proofs.step_limits.Statement.{statement}
@@ -35,13 +35,13 @@ returns-4 : tie.Need-returns-4
 returns-4 c =
     let p = c.before.before.before.before in
     let step = (start p).args.step in
-    simp (numbered p, le-ltb 1 step.event (omega arith), lt-ltb topTick step.tick (omega arith))
+    simp (numbered p, le-ltb 1 step.event (omega arith), lt-ltb top_tick step.tick (omega arith))
 
 returns-5 : tie.Need-returns-5
 returns-5 c =
     let p = c.before.before.before.before in
     let step = (start p).args.step in
-    simp (numbered p, le-ltb 1 step.event (omega arith), le-ltb topTick step.tick (omega arith))
+    simp (numbered p, le-ltb 1 step.event (omega arith), le-ltb top_tick step.tick (omega arith))
 
-pub step-limits-spec : {M : Type 1} → statement M
-step-limits-spec = tie.close (tie.spec returns returns-2 returns-3 returns-4 returns-5)
+pub step_limits_spec : {M : Type 1} → statement M
+step_limits_spec = tie.close (tie.spec returns returns-2 returns-3 returns-4 returns-5)

@@ -4,10 +4,10 @@ use Prim.Native.Nat.{ℕ}
 use native.Mathlib.Omega.{arith}
 use borrow.Author.Rules.{rules}
 use lib.ListN.{length}
-use Rattle.terms.specs.Limits.{mostProcesses}
-use Rattle.steps.specs.Step.{stepWriteRefusal}
-use Rattle.records.proofs.RecordLaws.{wrote-refused, wrote-accepted}
-use Rattle.steps.proofs.StepLaws.{WritableStep, step-write-said}
+use Rattle.terms.specs.Limits.{most_processes}
+use Rattle.steps.specs.Step.{step_write_refusal}
+use Rattle.records.proofs.RecordLaws.{wrote_refused, wrote_accepted}
+use Rattle.steps.proofs.StepLaws.{WritableStep, step_write_said}
 use Rattle.steps.proofs.write_step.Statement.{statement}
 use Rattle.steps.proofs.write_step.Tie as tie
 
@@ -19,11 +19,11 @@ module _ (c : tie.Else1) where
   abbrev room : ℕ
   room = length start.args.buffer.now
 
-  accepted : stepWriteRefusal mostProcesses start.args.step room ≡ 0
+  accepted : step_write_refusal most_processes start.args.step room ≡ 0
   accepted = sym c.before.step-write-refusal.ensures ∙ c.if1.false
 
-  writable : WritableStep mostProcesses start.args.step room
-  writable = step-write-said _ _ _ accepted
+  writable : WritableStep most_processes start.args.step room
+  writable = step_write_said _ _ _ accepted
 
 -- the way back from the record's bytes, and from the copy
 abbrev at_tick : tie.After-struct-known2 → tie.After-u32-bytes
@@ -33,7 +33,7 @@ abbrev at_copy : tie.After-copy-arg → tie.After-u32-bytes
 at_copy c = at_tick c.before.before
 
 returns : tie.Need-returns
-returns c = wrote-refused _ _ _ _ _ _ (sym c.before.step-write-refusal.ensures) c.if1.true refl refl
+returns c = wrote_refused _ _ _ _ _ _ (sym c.before.step-write-refusal.ensures) c.if1.true refl refl
 
 copy-requires : tie.Need-copy-requires
 copy-requires c κs = omega (arith, writable (at_copy c).before)
@@ -42,14 +42,14 @@ returns-2 : tie.Need-returns-2
 returns-2 c =
     let copied = c.before.before in
     let w = at_copy copied.before in
-    wrote-accepted _ _ _ _ _ _
+    wrote_accepted _ _ _ _ _ _
     (accepted w.before)
     refl
     refl
-    (copied.copy.ensures.1 ∙ simp w.u32-bytes.ensures)
+    (copied.copy.ensures.1 ∙ simp w.u32_bytes.ensures)
 
-pub write-step-spec : {M : Type 1} → statement M
-write-step-spec =
+pub write_step_spec : {M : Type 1} → statement M
+write_step_spec =
     tie.close
     (tie.spec
     (λ c κs. search rules)

@@ -6,5 +6,5 @@ use Rattle.terms.proofs.u16_bytes.Tie as tie
 returns : tie.Need-returns
 returns c = search rules
 
-pub u16-bytes-spec : {M : Type 1} → statement M
-u16-bytes-spec = tie.close (tie.spec (λ c. search rules) (λ c. search rules) returns)
+pub u16_bytes_spec : {M : Type 1} → statement M
+u16_bytes_spec = tie.close (tie.spec (λ c. search rules) (λ c. search rules) returns)

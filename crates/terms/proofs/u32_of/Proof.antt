@@ -6,8 +6,8 @@ use Rattle.terms.proofs.u32_of.Tie as tie
 returns : tie.Need-returns
 returns c = search rules
 
-pub u32-of-spec : {M : Type 1} → statement M
-u32-of-spec =
+pub u32_of_spec : {M : Type 1} → statement M
+u32_of_spec =
     tie.close
     (tie.spec
     (λ c. search rules)

@@ -9,5 +9,5 @@ returns c = search rules
 returns-2 : tie.Need-returns-2
 returns-2 c = search rules
 
-pub number-spec : {M : Type 1} → statement M
-number-spec = tie.close (tie.spec (λ c. search rules) (λ c. search rules) returns returns-2)
+pub number_spec : {M : Type 1} → statement M
+number_spec = tie.close (tie.spec (λ c. search rules) (λ c. search rules) returns returns-2)

@@ -10,8 +10,8 @@ returns c = search outcomes
 returns-2 : tie.Need-returns-2
 returns-2 c = search outcomes
 
-pub read-in-spec : {M : Type 1} → statement M
-read-in-spec =
+pub read_in_spec : {M : Type 1} → statement M
+read_in_spec =
     tie.close
     (tie.spec
     (λ c κs. search rules)

@@ -13,8 +13,8 @@ returns-2 c = search outcomes
 returns-3 : tie.Need-returns-3
 returns-3 c = search outcomes
 
-pub write-in-spec : {M : Type 1} → statement M
-write-in-spec =
+pub write_in_spec : {M : Type 1} → statement M
+write_in_spec =
     tie.close
     (tie.spec
     (λ c κs. search rules)

@@ -10,5 +10,5 @@ returns c = rw c.if1.true
 returns-2 : tie.Need-returns-2
 returns-2 c = rw c.if1.false
 
-pub flag-spec : {M : Type 1} → statement M
-flag-spec = tie.close (tie.spec (λ c. search rules) returns returns-2)
+pub flag_spec : {M : Type 1} → statement M
+flag_spec = tie.close (tie.spec (λ c. search rules) returns returns-2)

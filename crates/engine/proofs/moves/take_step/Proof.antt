@@ -1,6 +1,6 @@
 -- `engine::moves::take_step` meets its contract.
 -- Assumes nothing.
-use Rattle.engine.proofs.StepLaws.{steps-by-move, steps-by-crash}
+use Rattle.engine.proofs.StepLaws.{steps_by_move, steps_by_crash}
 use Rattle.rows.proofs.RowLaws.{crash-written}
 use borrow.Author.Tests.{eq-eqb, ne_eqb}
 use mathlib.Core.Path.{refl}
@@ -12,7 +12,7 @@ returns : tie.Need-returns
 returns c =
     let crashing = c.before.before in
     let pre = crashing.before.before.requires in
-    steps-by-crash _ _ _ _ _ _ _ _ _ (ne_eqb _ _ crashing.if1.true) (crash-written pre.1.1.0 c.crash.ensures) refl refl
+    steps_by_crash _ _ _ _ _ _ _ _ _ (ne_eqb _ _ crashing.if1.true) (crash-written pre.1.1.0 c.crash.ensures) refl refl
 
 make-move-requires : tie.Need-make-move-requires
 make-move-requires c κs =
@@ -24,7 +24,7 @@ make-move-requires c κs =
 returns-2 : tie.Need-returns-2
 returns-2 c =
     let moving = c.before.before.before.before.before.before in
-    steps-by-move _ _ _ _ _ _ _ _ _ (eq-eqb _ _ moving.if1.false) c.make-move.ensures
+    steps_by_move _ _ _ _ _ _ _ _ _ (eq-eqb _ _ moving.if1.false) c.make-move.ensures
 
-pub take-step-spec : {M : Type 1} → statement M
-take-step-spec = tie.close (tie.spec (λ c κs. search rules) returns make-move-requires returns-2)
+pub take_step_spec : {M : Type 1} → statement M
+take_step_spec = tie.close (tie.spec (λ c κs. search rules) returns make-move-requires returns-2)

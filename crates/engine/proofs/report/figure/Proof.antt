@@ -15,8 +15,8 @@ returns-2 c = rw c.before.enum-told2.given.1 c.decided.ensures
 returns-3 : tie.Need-returns-3
 returns-3 c = rw c.before.enum-told3.given.1 c.decided2.ensures
 
-pub figure-spec : {M : Type 1} → statement M
-figure-spec =
+pub figure_spec : {M : Type 1} → statement M
+figure_spec =
     tie.close
     (tie.spec
     (λ c. search rules)

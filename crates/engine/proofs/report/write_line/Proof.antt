@@ -4,7 +4,7 @@ use native.Mathlib.Omega.{arith}
 use lib.ListN.{length-set}
 use Rattle.rows.specs.Rows.{row_in}
 use Rattle.model.specs.Routine.{routine_of}
-use Rattle.model.proofs.ReportLaws.{line-stored}
+use Rattle.model.proofs.ReportLaws.{line_stored}
 use borrow.Author.Rules.{rules}
 use Rattle.engine.proofs.report.write_line.Statement.{statement}
 use Rattle.engine.proofs.report.write_line.Tie as tie
@@ -24,10 +24,10 @@ returns c =
     let start = placed.before.before in
     let a = start.args in
     rw (placed.shown-place.ensures, c.before.before.figure.ensures, c.before.moves.ensures, c.lates.ensures)
-    (line-stored (routine_of a.kind) (row_in a.rows.now a.j) a.at a.report.now start.requires.1)
+    (line_stored (routine_of a.kind) (row_in a.rows.now a.j) a.at a.report.now start.requires.1)
 
-pub write-line-spec : {M : Type 1} → statement M
-write-line-spec =
+pub write_line_spec : {M : Type 1} → statement M
+write_line_spec =
     tie.close
     (tie.spec
     (λ c κs. search rules)

@@ -9,14 +9,14 @@ use Rattle.terms.specs.Overlay.{overlay}
 use Rattle.model.specs.Routine.{routine}
 use Rattle.model.specs.Report.{lines}
 use Rattle.model.proofs.ReportLaws.{lines_more}
-use Rattle.rows.specs.Rows.{IsRow, rowsIn}
+use Rattle.rows.specs.Rows.{IsRow, rows_in}
 use Rattle.rows.proofs.RowsLaws.{row_at}
 use Rattle.engine.proofs.report.write_lines.Statement.{statement}
 use Rattle.engine.proofs.report.write_lines.Tie as tie
 
 abbrev invariant-loop : tie.invariant-loop
 invariant-loop shape rows report₀ kind j₀ report j =
-    (j ≤ shape.count) × (length report ≡ length report₀) × (report ≡ overlay (lines (routine shape) (rowsIn rows) j) report₀)
+    (j ≤ shape.count) × (length report ≡ length report₀) × (report ≡ overlay (lines (routine shape) (rows_in rows) j) report₀)
 
 abbrev decreases-loop : tie.decreases-loop
 decreases-loop shape rows report₀ kind j₀ report j = shape.count - j
@@ -43,7 +43,7 @@ loop-again c =
       search rules,
       c.before.before.write-line.ensures
           ∙ rw (← row_at rows l.loop.j room)
-          (lines_more (routine start.args.shape) (rowsIn rows) l.loop.j start.args.report.now l.loop.report l.loop.invariant.2),
+          (lines_more (routine start.args.shape) (rows_in rows) l.loop.j start.args.report.now l.loop.report l.loop.invariant.2),
     )
 
 returns : tie.Need-returns invariant-loop decreases-loop
@@ -51,10 +51,10 @@ returns c =
     let l = c.before.before in
     let a = l.before.before.args in
     let all : l.loop.j ≡ a.shape.count = omega (arith, l.loop.invariant.0, c.if1.false) in
-    l.loop.invariant.2 ∙ ap (λ (n : ℕ). overlay (lines (routine a.shape) (rowsIn a.rows.now) n) a.report.now) all
+    l.loop.invariant.2 ∙ ap (λ (n : ℕ). overlay (lines (routine a.shape) (rows_in a.rows.now) n) a.report.now) all
 
-pub write-lines-spec : {M : Type 1} → statement M
-write-lines-spec =
+pub write_lines_spec : {M : Type 1} → statement M
+write_lines_spec =
     tie.close
     (tie.spec
     invariant-loop

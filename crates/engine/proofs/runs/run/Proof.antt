@@ -5,7 +5,7 @@ use mathlib.Core.List.{List}
 use native.Mathlib.Omega.{arith}
 use borrow.Author.Rules.{rules}
 use Prim.Native.Nat.{ℕ}
-use Rattle.engine.proofs.EntryLaws.{unset, begins-inside, narrow, too_long, sound, starts, lined, goes_on}
+use Rattle.engine.proofs.EntryLaws.{unset, begins_inside, narrow, too_long, sound, starts, lined, goes_on}
 use Rattle.engine.proofs.runs.run.Statement.{statement}
 use Rattle.engine.proofs.runs.run.Tie as tie
 
@@ -32,16 +32,16 @@ short c = c.before.before
 -- THE NEEDS
 
 returns : tie.Need-returns
-returns c = let r = c.before in unset (trace r) _ r.read-setup.ensures c.if1.true (report r)
+returns c = let r = c.before in unset (trace r) _ r.read_setup.ensures c.if1.true (report r)
 
 returns-2 : tie.Need-returns-2
 returns-2 c =
     let a = c.before.before.before in
     let r = read a in
-    narrow (trace r) _ r.read-setup.ensures a.if1.false (report r) (omega arith)
+    narrow (trace r) _ r.read_setup.ensures a.if1.false (report r) (omega arith)
 
 sub-rest : tie.Need-overflow-sub-rest
-sub-rest c = let a = accepted c in let r = read a in begins-inside (trace r) _ r.read-setup.ensures a.if1.left
+sub-rest c = let a = accepted c in let r = read a in begins_inside (trace r) _ r.read_setup.ensures a.if1.left
 
 part-rest-start : tie.Need-slice-bounds-rest-start
 part-rest-start c = let h = sub-rest c in search rules
@@ -51,7 +51,7 @@ returns-3 c =
     let w = c.before.before in
     let a = accepted w in
     let r = read a in
-    too_long (trace r) _ r.read-setup.ensures a.if1.left (report r) (omega (arith, w.if2.false)) (omega (arith, c.if3.true))
+    too_long (trace r) _ r.read_setup.ensures a.if1.left (report r) (omega (arith, w.if2.false)) (omega (arith, c.if3.true))
 
 run-steps-requires : tie.Need-run-steps-requires
 run-steps-requires c κs =
@@ -59,7 +59,7 @@ run-steps-requires c κs =
     let w = wide (short s) in
     let a = accepted w in
     let r = read a in
-    let reads = r.read-setup.ensures in
+    let reads = r.read_setup.ensures in
     let shapes = s.shape_of.ensures in (
       sound (trace r) _ reads a.if1.left _ shapes (λ j. omega (arith, r.before.before.shared-slice-known.given j)),
       (starts (trace r) _ reads a.if1.left _ shapes, ((short s).if3.false, lined (trace r) _ reads a.if1.left _ shapes (report r) (omega (arith, w.if2.left)))),
@@ -72,7 +72,7 @@ returns-4 c =
     let a = accepted w in
     let r = read a in
     c.before.before.run-steps.ensures
-    ∙ goes_on (trace r) _ r.read-setup.ensures a.if1.left _ s.shape_of.ensures (report r) (omega (arith, w.if2.left))
+    ∙ goes_on (trace r) _ r.read_setup.ensures a.if1.left _ s.shape_of.ensures (report r) (omega (arith, w.if2.left))
     (omega (arith, (short s).if3.false))
 
 pub run_spec : {M : Type 1} → statement M

@@ -7,8 +7,8 @@ use Rattle.engine.proofs.runs.shape_of.Tie as tie
 returns : tie.Need-returns
 returns c = rw c.before.before.before.kind-of.ensures
 
-pub shape-of-spec : {M : Type 1} → statement M
-shape-of-spec =
+pub shape_of_spec : {M : Type 1} → statement M
+shape_of_spec =
     tie.close
     (tie.spec
     (λ c. search rules)

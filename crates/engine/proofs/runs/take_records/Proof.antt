@@ -8,17 +8,17 @@ use lib.ListN.{length, drop}
 use Rattle.terms.specs.Numbers.{index_of}
 use Rattle.terms.proofs.Parts.{part_to_end}
 use Rattle.steps.specs.declared.Step.{Step}
-use Rattle.steps.specs.Step.{stepRead}
+use Rattle.steps.specs.Step.{step_read}
 use Rattle.model.specs.Bounds.{Room}
 use Rattle.rows.specs.Rows.{IsRow, Whole, row_in}
-use Rattle.engine.specs.Stepped.{Due, parts, stateIn}
-use Rattle.engine.proofs.WalkLaws.{Going, sets-out, arrives, unread, whole, due, seated, roomy, unfit, lands}
+use Rattle.engine.specs.Stepped.{Due, parts, state_in}
+use Rattle.engine.proofs.WalkLaws.{Going, sets_out, arrives, unread, whole, due, seated, roomy, unfit, lands}
 use Rattle.engine.proofs.runs.take_records.Statement.{statement}
 use Rattle.engine.proofs.runs.take_records.Tie as tie
 
 abbrev invariant-loop : tie.invariant-loop
 invariant-loop shape rest rows₀ values₀ deadlines₀ last₀ flags₀ newest₀ at₀ k₀ rows values deadlines last flags newest at k =
-    Whole rows × Going shape (stateIn (parts rows₀ values₀ deadlines₀ last₀ flags₀ newest₀)) rest (parts rows values deadlines last flags newest) at k
+    Whole rows × Going shape (state_in (parts rows₀ values₀ deadlines₀ last₀ flags₀ newest₀)) rest (parts rows values deadlines last flags newest) at k
 
 abbrev decreases-loop : tie.decreases-loop
 decreases-loop shape rest rows₀ values₀ deadlines₀ last₀ flags₀ newest₀ at₀ k₀ rows values deadlines last flags newest at k = length rest - at
@@ -52,14 +52,14 @@ accepted c = c.before.before.before.before.before
 -- WHAT HOLDS THERE
 
 -- the record's bytes, read as a step
-found : (c : Read) → c.read-step-of.result ≡ stepRead (start (head c)).args.shape.count (drop (head c).loop.at (start (head c)).args.rest.now)
+found : (c : Read) → c.read_step_of.result ≡ step_read (start (head c)).args.shape.count (drop (head c).loop.at (start (head c)).args.rest.now)
 found c =
     let a = (start (head c)).args in
-    c.read-step-of.ensures ∙ ap (stepRead a.shape.count) (part_to_end (head c).loop.at a.rest.now)
+    c.read_step_of.ensures ∙ ap (step_read a.shape.count) (part_to_end (head c).loop.at a.rest.now)
 
 -- the step of an accepted record, and the row of its process
 abbrev step : Accepted → Step
-step c = (read c).read-step-of.result.step
+step c = (read c).read_step_of.result.step
 
 abbrev row : Accepted → ℕ
 row c = index_of (step c).process
@@ -85,7 +85,7 @@ module _ (c : Accepted) where
 -- THE NEEDS
 
 loop-holds : tie.Need-loop-init invariant-loop decreases-loop
-loop-holds c = (c.before.requires.1.1.1.0, sets-out _ _ _)
+loop-holds c = (c.before.requires.1.1.1.0, sets_out _ _ _)
 
 add-k : tie.Need-overflow-add-k invariant-loop decreases-loop
 add-k c = let l = head c in omega (arith, l.loop.inv.1.here, c.before.before.loop-test.true, (start l).pre.1.1.0)
@@ -139,8 +139,8 @@ loop-again c =
 returns-3 : tie.Need-returns-3 invariant-loop decreases-loop
 returns-3 c = arrives c.before.loop.invariant.1 c.loop-test.false
 
-pub take-records-spec : {M : Type 1} → statement M
-take-records-spec =
+pub take_records_spec : {M : Type 1} → statement M
+take_records_spec =
     tie.close
     (tie.spec
     invariant-loop

@@ -1,6 +1,6 @@
 -- `routine::judges::judge` meets its contract.
 -- Assumes nothing.
-use Rattle.model.specs.Routine.{isDecided}
+use Rattle.model.specs.Routine.{is_decided}
 use Rattle.model.specs.Run.{judge}
 use borrow.Author.Tests.{lt-ltb, le-ltb, eq-eqb, ne_eqb}
 use mathlib.Core.Path.{sym, ap, ◌∙◌}
@@ -20,7 +20,7 @@ unfolding judge
 returns-2 c =
     let mark = c.before in
     let timely = mark.before in
-    rw (le-ltb _ _ timely.if1.false, sym mark.is-crashed.ensures ∙ c.if2.true)
+    rw (le-ltb _ _ timely.if1.false, sym mark.is_crashed.ensures ∙ c.if2.true)
 
 returns-3 : tie.Need-returns-3
 unfolding judge
@@ -28,7 +28,7 @@ returns-3 c =
     let up = c.before.before in
     let mark = up.before in
     let timely = mark.before in
-    rw (le-ltb _ _ timely.if1.false, sym mark.is-crashed.ensures ∙ up.if2.false, ne_eqb _ _ c.if3.true)
+    rw (le-ltb _ _ timely.if1.false, sym mark.is_crashed.ensures ∙ up.if2.false, ne_eqb _ _ c.if3.true)
 
 returns-4 : tie.Need-returns-4
 unfolding judge
@@ -40,9 +40,9 @@ returns-4 c =
     let timely = mark.before in
     rw (
       le-ltb _ _ timely.if1.false,
-      sym mark.is-crashed.ensures ∙ up.if2.false,
+      sym mark.is_crashed.ensures ∙ up.if2.false,
       eq-eqb _ _ move.if3.false,
-      sym (asked.is-decided.ensures ∙ ap isDecided asked.before.place.ensures) ∙ c.if4.true,
+      sym (asked.is-decided.ensures ∙ ap is_decided asked.before.place.ensures) ∙ c.if4.true,
     )
 
 returns-5 : tie.Need-returns-5
@@ -57,9 +57,9 @@ returns-5 c =
     let timely = mark.before in
     rw (
       le-ltb _ _ timely.if1.false,
-      sym mark.is-crashed.ensures ∙ up.if2.false,
+      sym mark.is_crashed.ensures ∙ up.if2.false,
       eq-eqb _ _ move.if3.false,
-      sym (asked.is-decided.ensures ∙ ap isDecided asked.before.place.ensures) ∙ undecided.if4.false,
+      sym (asked.is-decided.ensures ∙ ap is_decided asked.before.place.ensures) ∙ undecided.if4.false,
       ← waking.wake.ensures,
       lt-ltb _ _ c.if5.true,
     )
@@ -76,15 +76,15 @@ returns-6 c =
     let timely = mark.before in
     rw (
       le-ltb _ _ timely.if1.false,
-      sym mark.is-crashed.ensures ∙ up.if2.false,
+      sym mark.is_crashed.ensures ∙ up.if2.false,
       eq-eqb _ _ move.if3.false,
-      sym (asked.is-decided.ensures ∙ ap isDecided asked.before.place.ensures) ∙ undecided.if4.false,
+      sym (asked.is-decided.ensures ∙ ap is_decided asked.before.place.ensures) ∙ undecided.if4.false,
       ← waking.wake.ensures,
       le-ltb _ _ c.if5.false,
     )
 
-pub judge-spec : {M : Type 1} → statement M
-judge-spec =
+pub judge_spec : {M : Type 1} → statement M
+judge_spec =
     tie.close
     (tie.spec
     returns

@@ -1,6 +1,6 @@
 -- `routine::takes::check` meets its contract.
 -- Assumes nothing.
-use Rattle.rows.proofs.RowLaws.{also, told-as, count-written, place-written, slot-written, decided-written}
+use Rattle.rows.proofs.RowLaws.{also, told_as, count_written, place_written, slot_written, decided_written}
 use borrow.Author.Tests.{eq-eqb, ne_eqb}
 use mathlib.Core.Path.{ap, ◌∙◌, sym}
 use Rattle.model.specs.declared.Row.{Row}
@@ -17,8 +17,8 @@ returns c w =
     let counting = own.before.before in
     let start = counting.before.before in
     let is = start.requires.0 in
-    let counted = count-written is false counting.count.ensures in
-    told-as (also counted (place-written is _ c.to.ensures))
+    let counted = count_written is false counting.count.ensures in
+    told_as (also counted (place_written is _ c.to.ensures))
     (λ l. rw (lock.enum_told.given.1, eq-eqb _ _ (asked.if1.true ∙ own.own.ensures ∙ ap (λ (r : Row). r.own) (counted.row l))))
 
 returns-2 : tie.Need-returns-2
@@ -30,8 +30,8 @@ returns-2 c w =
     let counting = own.before.before in
     let start = counting.before.before in
     let is = start.requires.0 in
-    let counted = count-written is false counting.count.ensures in
-    told-as (also (also counted (place-written is _ c.before.before.to2.ensures)) (slot-written is _ c.on.ensures))
+    let counted = count_written is false counting.count.ensures in
+    told_as (also (also counted (place_written is _ c.before.before.to2.ensures)) (slot_written is _ c.on.ensures))
     (λ l. rw (
       losing.lost.ensures ∙ ap (λ (r : Row). r.local.slot) (counted.row l),
       lock.enum_told.given.1,
@@ -44,9 +44,9 @@ returns-3 c w =
     let counting = plain.before.before.before.before in
     let start = counting.before.before in
     let is = start.requires.0 in
-    told-as
-    (also (also (count-written is false counting.count.ensures) (place-written is _ c.before.before.to3.ensures))
-    (decided-written is _ c.decides.ensures))
+    told_as
+    (also (also (count_written is false counting.count.ensures) (place_written is _ c.before.before.to3.ensures))
+    (decided_written is _ c.decides.ensures))
     (λ l. rw plain.enum-told2.given.1)
 
 returns-4 : tie.Need-returns-4
@@ -55,13 +55,13 @@ returns-4 c w =
     let counting = fast.before.before.before.before in
     let start = counting.before.before in
     let is = start.requires.0 in
-    told-as
-    (also (also (count-written is false counting.count.ensures) (place-written is _ c.before.before.to4.ensures))
-    (decided-written is _ c.decides2.ensures))
+    told_as
+    (also (also (count_written is false counting.count.ensures) (place_written is _ c.before.before.to4.ensures))
+    (decided_written is _ c.decides2.ensures))
     (λ l. rw fast.enum-told3.given.1)
 
-pub check-spec : {M : Type 1} → statement M
-check-spec =
+pub check_spec : {M : Type 1} → statement M
+check_spec =
     tie.close
     (tie.spec
     (λ c κs. search rules)

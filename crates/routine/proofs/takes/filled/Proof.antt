@@ -35,8 +35,8 @@ returns-3 c =
     let u = found.before.args.shape in
     ap slot_of (ap (λ (s : SlotNumber). (s.0 + 1) % u.size) found.slot.ensures)
 
-pub filled-spec : {M : Type 1} → statement M
-filled-spec =
+pub filled_spec : {M : Type 1} → statement M
+filled_spec =
     tie.close
     (tie.spec
     (λ c κs. search rules)

@@ -1,6 +1,6 @@
 -- `routine::takes::put` meets its contract.
 -- Assumes nothing.
-use Rattle.rows.proofs.RowLaws.{also, told-as, count-written, place-written}
+use Rattle.rows.proofs.RowLaws.{also, told_as, count_written, place_written}
 use borrow.Author.Rules.{rules}
 use Rattle.routine.proofs.takes.put.Statement.{statement}
 use Rattle.routine.proofs.takes.put.Tie as tie
@@ -12,7 +12,7 @@ returns c w =
     let counting = lock.before.before in
     let start = counting.before.before in
     let is = start.requires.0 in
-    told-as (also (count-written is start.args.late counting.count.ensures) (place-written is _ c.to.ensures))
+    told_as (also (count_written is start.args.late counting.count.ensures) (place_written is _ c.to.ensures))
     (λ l. rw (lock.enum_told.given.1, asked.if1.true))
 
 returns-2 : tie.Need-returns-2
@@ -22,7 +22,7 @@ returns-2 c w =
     let counting = lock.before.before in
     let start = counting.before.before in
     let is = start.requires.0 in
-    told-as (also (count-written is start.args.late counting.count.ensures) (place-written is _ c.to2.ensures))
+    told_as (also (count_written is start.args.late counting.count.ensures) (place_written is _ c.to2.ensures))
     (λ l. rw (lock.enum_told.given.1, asked.if1.false))
 
 returns-3 : tie.Need-returns-3
@@ -31,7 +31,7 @@ returns-3 c w =
     let counting = plain.before.before in
     let start = counting.before.before in
     let is = start.requires.0 in
-    told-as (also (count-written is start.args.late counting.count.ensures) (place-written is _ c.to3.ensures))
+    told_as (also (count_written is start.args.late counting.count.ensures) (place_written is _ c.to3.ensures))
     (λ l. rw plain.enum-told2.given.1)
 
 returns-4 : tie.Need-returns-4
@@ -40,7 +40,7 @@ returns-4 c w =
     let counting = fast.before.before in
     let start = counting.before.before in
     let is = start.requires.0 in
-    told-as (also (count-written is start.args.late counting.count.ensures) (place-written is _ c.to4.ensures))
+    told_as (also (count_written is start.args.late counting.count.ensures) (place_written is _ c.to4.ensures))
     (λ l. rw fast.enum-told3.given.1)
 
 pub put_spec : {M : Type 1} → statement M

@@ -1,6 +1,6 @@
 -- `routine::takes::wait` meets its contract.
 -- Assumes nothing.
-use Rattle.rows.proofs.RowLaws.{also, told-as, count-written, place-written, wake-written}
+use Rattle.rows.proofs.RowLaws.{also, told_as, count_written, place_written, wake_written}
 use Rattle.routine.proofs.TakeLaws.{waits}
 use mathlib.Core.Bool.{false}
 use borrow.Author.Rules.{rules}
@@ -12,9 +12,9 @@ returns c =
     let counting = c.before.before.before.before.before in
     let start = counting.before.before in
     let is = start.requires.0 in
-    told-as
-    (also (also (count-written is false counting.count.ensures) (place-written is _ c.before.before.before.to.ensures))
-    (wake-written is _ c.until.ensures))
+    told_as
+    (also (also (count_written is false counting.count.ensures) (place_written is _ c.before.before.before.to.ensures))
+    (wake_written is _ c.until.ensures))
     (λ l. waits start.args.shape _ _)
 
 pub wait_spec : {M : Type 1} → statement M
