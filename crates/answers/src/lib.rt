@@ -1,4 +1,6 @@
 // What a bank answers a read and a write.
+#![tactic(auto)]
+
 ghost use Rattle.std.specs.Prelude.{◌≡◌};
 ghost use Rattle.answers.specs.Answers.{read_number, read_value, write_number, is_done, is_late};
 

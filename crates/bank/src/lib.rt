@@ -1,5 +1,7 @@
 // The bank of timed registers of document 01: 8 registers for 32 processes, with a deadline for each pair of process and register.
 // A bank goes in by value and comes back by value, beside the answer; `calls` has the same two calls over a bank whose parts are lent.
+#![tactic(auto)]
+
 pub mod calls;
 
 ghost use Rattle.std.specs.Prelude.{◌≡◌};

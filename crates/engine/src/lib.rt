@@ -1,4 +1,6 @@
 // The engine: a step in place, a run over a trace's bytes, the report.
+#![tactic(auto)]
+
 mod moves;
 mod report;
 pub mod runs;

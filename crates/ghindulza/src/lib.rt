@@ -1,5 +1,7 @@
 // The C surface of the bench: numbers and slices only. include/ghindulza.h declares it for C.
 // Each function takes the call apart, hands it to the layer below and puts the answer out; it returns the number of the refusal, 0 for accepted.
+#![tactic(auto)]
+
 ghost use Rattle.std.specs.Prelude.{◌≡◌};
 ghost use Rattle.terms.specs.Limits.{most_processes};
 ghost use Rattle.terms.specs.Numbers.{process_of, slot_of};

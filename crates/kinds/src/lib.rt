@@ -1,4 +1,6 @@
 // The kinds: what a trace is run against, and the number of each in a setup.
+#![tactic(auto)]
+
 ghost use Rattle.std.specs.Prelude.{◌≡◌};
 ghost use Rattle.kinds.specs.Kinds.{bad_kind, kind_of};
 

@@ -1,4 +1,6 @@
 // The text of the program: what it prints for an input, put into a buffer.
+#![tactic(auto)]
+
 ghost use Rattle.std.specs.Prelude.{◌≡◌, [], ◌∷◌, ◌++◌, ◌+◌, ◌*◌, ◌≤◌, ◌<◌, length};
 ghost use Rattle.records.specs.Record.{byte};
 ghost use Rattle.listing.specs.Put.{Put};

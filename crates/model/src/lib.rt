@@ -1,4 +1,6 @@
 // The types of the bench. What they mean stands in specs/: Routine.antt (one process), Run.antt (one record, a trace), Report.antt.
+#![tactic(auto)]
+
 ghost use Rattle.std.specs.Prelude.{◌≡◌, ◌<◌};
 ghost use Rattle.terms.specs.Limits.{most_processes};
 ghost use Rattle.model.specs.Routine.{routine_of};

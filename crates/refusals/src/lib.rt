@@ -1,4 +1,6 @@
 // What a call of the bank is refused for, by its numbers alone: 11, 17, 13 and, for a read, 18, in the order of document 01.
+#![tactic(auto)]
+
 ghost use Rattle.std.specs.Prelude.{◌≡◌};
 ghost use Rattle.refusals.specs.Refusals.{process_refusal, slot_refusal, tick_refusal, wait_refusal, call_refusal, read_refusal};
 

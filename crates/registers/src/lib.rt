@@ -1,5 +1,7 @@
 // The deadline rule of the timed registers, in place over a bank whose parts are lent: a read or a write whose numbers are known to be good.
 // The crate `bank` refuses the others.
+#![tactic(auto)]
+
 ghost use Rattle.std.specs.Prelude.{◌≡◌};
 ghost use Rattle.terms.specs.Ranges.{IsPair, IsTick, IsWait};
 ghost use Rattle.registers.specs.Deadlines.{pair_of, due, read_granted, write_granted};

@@ -1,4 +1,6 @@
 // Rows in place: the numbers of all rows in one list. Each is written by itself, so that a move touches only what it changes.
+#![tactic(auto)]
+
 ghost use Rattle.std.specs.Prelude.{◌≡◌};
 ghost use Rattle.model.specs.Places.{code_of, place_of};
 ghost use Rattle.model.specs.Routine.{routine_of};

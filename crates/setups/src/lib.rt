@@ -1,4 +1,6 @@
 // The setup record: mark, kind, n, ℓ or b, a zero byte, Δ, and n start bytes. 8 + n bytes.
+#![tactic(auto)]
+
 ghost use Rattle.std.specs.Prelude.{◌≡◌, ◌||◌, ◌+◌, ◌≤◌, length};
 ghost use Rattle.terms.specs.Limits.{most_processes};
 ghost use Rattle.setups.specs.Setup.{out_of_limits, bad_size, proposes, no_start, any_bad_start, setup_limits, head_refusal};

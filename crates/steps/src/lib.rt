@@ -1,4 +1,6 @@
 // The step record: mark, process, event, tick. 8 bytes.
+#![tactic(auto)]
+
 ghost use Rattle.std.specs.Prelude.{◌≡◌};
 ghost use Rattle.terms.specs.Limits.{most_processes};
 ghost use Rattle.terms.specs.Numbers.{process_of};

@@ -1,4 +1,6 @@
 // What every layer of the bench speaks in: process and slot numbers, the limits of a trace and of a wait, numbers in bytes.
+#![tactic(auto)]
+
 ghost use Rattle.std.specs.Prelude.{◌≡◌, [], ◌∷◌};
 ghost use Rattle.terms.specs.Little.{little_of, little_bytes};
 
