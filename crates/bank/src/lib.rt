@@ -13,20 +13,20 @@ use registers::{PAIRS, REGISTERS};
 use terms::{ProcessNumber, SlotNumber, Wait};
 
 // The registers' values, the deadline of each pair at `(i - 1) * 8 + c`, and the tick of the last accepted call.
-#[derive(Drop)]
+#[derive(Clone, Copy)]
 pub struct Bank {
     pub values: [u32; REGISTERS],
     pub deadlines: [u32; PAIRS],
     pub last: u32,
 }
 
-#[derive(Drop)]
+#[derive(Clone, Copy)]
 pub struct ReadResult {
     pub bank: Bank,
     pub answer: ReadAnswer,
 }
 
-#[derive(Drop)]
+#[derive(Clone, Copy)]
 pub struct WriteResult {
     pub bank: Bank,
     pub answer: WriteAnswer,

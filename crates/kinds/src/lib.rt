@@ -5,7 +5,7 @@ ghost use Rattle.std.specs.Prelude.{◌≡◌};
 ghost use Rattle.kinds.specs.Kinds.{bad_kind, kind_of};
 
 // The slot lock (kind 1), the plain decision (kind 2), the fast decision (kind 3).
-#[derive(Drop)]
+#[derive(Clone, Copy)]
 pub enum Kind {
     Lock,
     Plain,

@@ -38,7 +38,9 @@ fn put_word(word: &[u8], at: usize, text: &mut [u8]) -> usize
     requires { at + length word.now ≤ length text.old }
     ensures { Put (length word.now) at word.now text.old result text.new }
 {
-    at + bytes::copy(word, &mut text[at..])
+    let end = at + word.len();
+    text[at..end].copy_from_slice(word);
+    end
 }
 
 fn put_number(x: u32, at: usize, text: &mut [u8]) -> usize

@@ -24,7 +24,7 @@ pub const ROWS: usize = Trace::PROCESSES as usize;
 pub const FLAGS: usize = Trace::SLOTS as usize + 1;
 
 // Where a process stands. A crash is no place: it is a mark beside it, in the row.
-#[derive(Drop)]
+#[derive(Clone, Copy)]
 pub enum Place {
     Rest,
     Look,
@@ -38,7 +38,7 @@ pub enum Place {
 }
 
 // What a setup says of the whole run: `size` is ℓ in kind 1 and b in the others, `delta` the bound Δ.
-#[derive(Drop)]
+#[derive(Clone, Copy)]
 pub struct Shape {
     pub kind: Kind,
     pub count: u32,
@@ -48,7 +48,7 @@ pub struct Shape {
 
 // What a routine rules of a process: its place, its slot (register 0 in kinds 2 and 3), the value that it decided (0: none), the least tick at
 // which it may move, the next value of its scan.
-#[derive(Drop)]
+#[derive(Clone, Copy)]
 pub struct Local {
     pub place: Place,
     pub slot: SlotNumber,
@@ -59,7 +59,7 @@ pub struct Local {
 
 // One process: that, the value that it writes (its number in kind 1, its proposal in kinds 2 and 3), its moves, its late writes, and whether it
 // has crashed.
-#[derive(Drop)]
+#[derive(Clone, Copy)]
 pub struct Row {
     pub local: Local,
     pub own: u32,
@@ -69,13 +69,13 @@ pub struct Row {
 }
 
 // Memory with no deadlines.
-#[derive(Drop)]
+#[derive(Clone, Copy)]
 pub struct Shared {
     pub flags: [bool; FLAGS],
 }
 
 // The state of a run. `newest` is the tick of the newest accepted step; the bank's last tick moves with reads and writes only.
-#[derive(Drop)]
+#[derive(Clone, Copy)]
 pub struct State {
     pub rows: [Row; ROWS],
     pub bank: Bank,
@@ -84,7 +84,7 @@ pub struct State {
 }
 
 // The one operation of memory at a move: none; a read with a wait; a write; a flag set, or read.
-#[derive(Drop)]
+#[derive(Clone, Copy)]
 pub enum Ask {
     Nothing,
     Read(SlotNumber, u32),
@@ -94,14 +94,14 @@ pub enum Ask {
 }
 
 // What memory answers: the value read (of a flag, 1 or 0; 0 where nothing is read), and whether a write was late.
-#[derive(Drop)]
+#[derive(Clone, Copy)]
 pub struct Reply {
     pub value: u32,
     pub late: bool,
 }
 
 // What a run returns: 0 and the count of accepted steps, or the number of the refusal and its record.
-#[derive(Drop)]
+#[derive(Clone, Copy)]
 pub struct Outcome {
     pub number: u32,
     pub at: u32,

@@ -2,7 +2,7 @@
 #![tactic(auto)]
 
 // What a writer answers: 0 and the record's length, or the number of the refusal and 0.
-#[derive(Drop)]
+#[derive(Clone, Copy)]
 pub struct Written {
     pub refusal: u32,
     pub len: usize,

@@ -16,7 +16,7 @@ const MARK: [u8; 2] = [0x4F, 0x53];
 pub const PLACES: usize = Trace::PROCESSES as usize;
 
 // `size` is ℓ in kind 1 and b in the others; `starts` has 0 in the places beyond `processes`.
-#[derive(Drop)]
+#[derive(Clone, Copy)]
 pub struct Setup {
     pub kind: u8,
     pub processes: u8,
@@ -26,7 +26,7 @@ pub struct Setup {
 }
 
 // A setup, or the number of its refusal with every field 0.
-#[derive(Drop)]
+#[derive(Clone, Copy)]
 pub struct SetupRead {
     pub refusal: u32,
     pub setup: Setup,
@@ -160,7 +160,7 @@ fn head_refusal(most: u32, trace: &[u8]) -> u32
 }
 
 // The start bytes in their places, once each is in its range.
-#[derive(Drop)]
+#[derive(Clone, Copy)]
 struct StartsRead {
     refusal: u32,
     places: [u8; PLACES],
@@ -177,7 +177,7 @@ fn starts_of(kind: Kind, size: u8, spare: u8, s: &[u8]) -> StartsRead
         };
     }
     let mut places = [0u8; PLACES];
-    bytes::copy(s, &mut places);
+    places[..s.len()].copy_from_slice(s);
     StartsRead { refusal: 0, places }
 }
 
@@ -276,8 +276,8 @@ pub fn write_setup(kind: u32, size: u32, delta: u16, starts: &[u8], buffer: &mut
     let head = [
         MARK[0], MARK[1], kind as u8, n as u8, size as u8, 0, d[0], d[1],
     ];
-    bytes::copy(&head, buffer);
-    bytes::copy(starts, &mut buffer[8..]);
+    buffer[..8].copy_from_slice(&head);
+    buffer[8..8 + n].copy_from_slice(starts);
     Written {
         refusal: 0,
         len: 8 + n,

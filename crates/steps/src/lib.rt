@@ -12,7 +12,7 @@ use terms::{ProcessNumber, Trace};
 const MARK: [u8; 2] = [0x4F, 0x54];
 
 // Event 0 is a move, 1 a crash.
-#[derive(Drop)]
+#[derive(Clone, Copy)]
 pub struct Step {
     pub process: ProcessNumber,
     pub event: u32,
@@ -20,7 +20,7 @@ pub struct Step {
 }
 
 // A step, or the number of its refusal with every field 0.
-#[derive(Drop)]
+#[derive(Clone, Copy)]
 pub struct StepRead {
     pub refusal: u32,
     pub step: Step,
@@ -134,6 +134,6 @@ pub fn write_step(step: Step, buffer: &mut [u8]) -> Written
         t[2],
         t[3],
     ];
-    bytes::copy(&bytes, buffer);
+    buffer[..8].copy_from_slice(&bytes);
     Written { refusal: 0, len: 8 }
 }

@@ -5,15 +5,15 @@ ghost use Rattle.std.specs.Prelude.{◌≡◌, [], ◌∷◌};
 ghost use Rattle.terms.specs.Little.{little_of, little_bytes};
 
 // The letter i of document 003: a process, counted from 1.
-#[derive(Drop)]
+#[derive(Clone, Copy)]
 pub struct ProcessNumber(pub u32);
 
 // The letter c of document 003: a slot, counted from 0. Slot c is register c.
-#[derive(Drop)]
+#[derive(Clone, Copy)]
 pub struct SlotNumber(pub u32);
 
 // The limits belong to the trace itself. specs/Limits.antt has the same numbers for the prover.
-#[derive(Drop)]
+#[derive(Clone, Copy)]
 pub struct Trace {}
 
 impl Trace {
@@ -28,7 +28,7 @@ impl Trace {
 }
 
 // A read's wait, and the bound Δ: 0 to `TOP`, for a read also `UNLIMITED`.
-#[derive(Drop)]
+#[derive(Clone, Copy)]
 pub struct Wait {}
 
 impl Wait {
