@@ -111,7 +111,7 @@ every_place f t p =
     let x1 = and_right (f Place.Rest && f Place.Look) (f Place.Put && f Place.Wait) x in
     let z0 = and_left (f Place.Check && f Place.Critical) (f Place.Flag && f Place.Scan) z in
     let z1 = and_right (f Place.Check && f Place.Critical) (f Place.Flag && f Place.Scan) z in
-    elim p [
+    elim p as (λ v. T (f v)) [
       | Place.Rest ↦ and_left (f Place.Rest) (f Place.Look) x0
       | Place.Look ↦ and_right (f Place.Rest) (f Place.Look) x0
       | Place.Put ↦ and_left (f Place.Put) (f Place.Wait) x1

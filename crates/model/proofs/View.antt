@@ -114,7 +114,7 @@ module _ (k : Clock) (u : Shape) (s : State) (i : ProcessNumber) (t : ℕ) (sh :
   answer p = reply s.bank s.shared i t (ask_at p u.delta (row_of s i))
 
   abbrev row_after_lem : Place → Bool → Row
-  row_after_lem p b = counted (answer p).late (next_of (routine u) u (row_of s i).own_val p b (answer p).value (wake_at u.delta t) (row_of s i).local) (row_of s i)
+  row_after_lem p b = counted (answer p).late (next_of (routine u) u (row_of s i).own p b (answer p).value (wake_at u.delta t) (row_of s i).local) (row_of s i)
 
   abbrev bank_after_lem : Place → Bank
   bank_after_lem p = bank_after s.bank i t (ask_at p u.delta (row_of s i))
@@ -194,12 +194,12 @@ module _ (k : Clock) (u : Shape) (s : State) (i : ProcessNumber) (t : ℕ) (sh :
   sees f f' Place.Put true e h o = plainly f f' Place.Put true e o (rw e) refl Moves.fails
   sees f f' Place.Put false e h o =
       record {
-        v = put (view f s).value (row_of s i).local.slot.0 (row_of s i).own_val;
+        v = put (view f s).value (row_of s i).local.slot.0 (row_of s i).own;
         g = (view f s).shared;
         rule = Moves.stores (ltb-false (deadline_at s.bank i (row_of s i).local.slot) t e);
         looks =
             world_is _ _ _ _ _ _ f' (seat_path Place.Put false e o)
-            (rw e (get_or-put s.bank.values (row_of s i).local.slot.0 (row_of s i).own_val 0 in_values)) refl;
+            (rw e (get_or-put s.bank.values (row_of s i).local.slot.0 (row_of s i).own 0 in_values)) refl;
       }
   sees f f' Place.Wait b e h o = plainly f f' Place.Wait b e o refl refl Moves.pauses
   sees f f' Place.Check true e h o =
@@ -219,7 +219,7 @@ module _ (k : Clock) (u : Shape) (s : State) (i : ProcessNumber) (t : ℕ) (sh :
                 world_is _ _ _ _ _ _ f' (seat_path Place.Critical b e o)
                 (rw q (get_or-put s.bank.values (row_of s i).local.slot.0 0 0 in_values)) refl;
           }
-  sees f f' Place.Flag b e h o = raising f f' Place.Flag b (row_of s i).own_val e o refl refl o Moves.raises
+  sees f f' Place.Flag b e h o = raising f f' Place.Flag b (row_of s i).own e o refl refl o Moves.raises
   sees f f' Place.Scan true e h o = plainly f f' Place.Scan true e o refl refl (Moves.passes (bit_clear _ e))
   sees f f' Place.Scan false e h o = plainly f f' Place.Scan false e o refl refl (Moves.halts (bit_set _ e))
   sees f f' Place.Decided b e h o = absurd h

@@ -43,7 +43,7 @@ abbrev pub wake_on : Seat → ℕ
 wake_on s = s.row.local.wake
 
 abbrev pub own_of : Seat → ℕ
-own_of s = s.row.own_val
+own_of s = s.row.own
 
 -- ONE CHANGE
 
