@@ -1,5 +1,5 @@
 // Rows in place: the numbers of all rows in one list. Each is written by itself, so that a move touches only what it changes.
-#![tactic(auto)]
+#![tactic(auto, unfolding(crate::specs::Rows::row_in))]
 
 ghost use Rattle.std.specs.Prelude.{◌≡◌};
 ghost use Rattle.model.specs.Places.{code_of, place_of};
