@@ -17,7 +17,7 @@ use Rattle.records.specs.Record.{byte}
 use Rattle.records.proofs.RecordLaws.{byte_small, wrote_whole, wrote_said}
 use Rattle.setups.specs.declared.Setup.{Setup}
 use Rattle.setups.specs.declared.SetupRead.{SetupRead}
-use Rattle.setups.specs.Setup.{any_bad_start, setup_refusal, setup_read, setup_rest, rest_start, setup_head, setup_bytes, setup_write_refusal}
+use Rattle.setups.specs.Setup.{any_bad_start, setup_refusal, setup_read, setup_rest, rest_start, setup_head, setup_bytes}
 use Rattle.setups.specs.Setup.{WroteSetup, setup_fields, start_bytes, places}
 use Rattle.setups.proofs.SetupLaws.{Limits, limits_size, Head, AcceptedSetup, setup_said, said_setup, setup_accepted, rest_accepted}
 use Rattle.setups.proofs.SetupLaws.{start_count, WritableSetup, setup_write_said, said_setup_write}

@@ -17,8 +17,8 @@ use Rattle.terms.proofs.RefusalLaws.{if_refused, then_both, passed, refuse-false
 use Rattle.kinds.specs.declared.Kind.{Kind}
 use Rattle.kinds.specs.Kinds.{last_kind, kind_of}
 use Rattle.records.specs.Record.{byte}
-use Rattle.setups.specs.Setup.{setup_mark, out_of_limits, bad_size, bad_start, proposes, no_start, any_bad_start, setup_limits, head_refusal, start_bytes, places}
-use Rattle.setups.specs.Setup.{setup_fields, no_setup, setup_refusal, setup_read, setup_rest, rest_start, setup_write_refusal}
+use Rattle.setups.specs.Setup.{setup_mark, out_of_limits, bad_size, bad_start, proposes, no_start, any_bad_start, setup_limits, head_refusal, start_bytes}
+use Rattle.setups.specs.Setup.{places, setup_fields, no_setup, setup_refusal, setup_read, setup_rest, rest_start, setup_write_refusal}
 use Rattle.setups.specs.declared.SetupRead.{SetupRead}
 use Rattle.records.proofs.RecordLaws.{marked_said, byte_small, none_bad, all_good}
 
