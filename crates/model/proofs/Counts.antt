@@ -17,7 +17,7 @@ use Rattle.model.specs.declared.State.{State}
 use Rattle.model.specs.Routine.{Routine, routine, crash, unmoved, begin}
 use Rattle.model.specs.Bounds.{Bytes, Sound, Starts}
 use Rattle.model.specs.Run.{row_at, row_of, fresh, is_move, after, step_at, reach, Progress, Progress.going, shape, rest_of, start_of, records, run_of}
-use Rattle.model.specs.Counts.{how_many, move_of, wrote_late, moves_of, lates_of}
+use Rattle.model.specs.Counts.{how_many, move_of, wrote_late}
 use Rattle.model.specs.Claims.{Counted}
 use Rattle.model.proofs.RunLaws.{run_going}
 use Rattle.model.proofs.Turns.{row_gone, turn}

@@ -3,7 +3,7 @@
 -- Assumes nothing.
 use Prim.Native.Nat.{ℕ, zero, suc, ◌+◌, ◌*◌, ◌≤◌, ◌<◌}
 use mathlib.Core.Path.{◌≡◌, refl, sym, ap, ap₂, ◌∙◌}
-use mathlib.Core.List.{List, [], ◌∷◌, ◌++◌, append_assoc}
+use mathlib.Core.List.{List, ◌++◌, append_assoc}
 use native.Mathlib.Nat.{zero-add}
 use native.Mathlib.Numerals.{add-one, add-two, add-three}
 use native.Mathlib.Omega.{arith}
@@ -13,16 +13,16 @@ use lib.ListN.{length, take, drop, get_or, set, length-append}
 use lib.Seq.{sets-eq}
 use Rattle.terms.specs.Limits.{most_steps}
 use Rattle.terms.specs.Overlay.{overlay, spliced}
-use Rattle.terms.specs.Refusal.{refuse, ◌then◌}
+use Rattle.terms.specs.Refusal.{refuse}
 use Rattle.terms.proofs.OverlayLaws.{spliced_front, spliced_then}
-use Rattle.terms.proofs.RefusalLaws.{then_on, then_stop}
+use Rattle.terms.proofs.RefusalLaws.{then_stop}
 use Rattle.records.specs.Record.{byte}
 use Rattle.setups.specs.Setup.{setup_refusal}
 use Rattle.model.specs.declared.Shape.{Shape}
 use Rattle.model.specs.declared.Row.{Row}
 use Rattle.model.specs.Routine.{Routine}
 use Rattle.model.specs.Sizes.{line_width}
-use Rattle.model.specs.Run.{blank, shape, rest_of, run_refusal, run_of, records, reached, Progress, Progress.going, Progress.stopped}
+use Rattle.model.specs.Run.{blank, shape, rest_of, run_refusal, records, reached, Progress, Progress.stopped}
 use Rattle.model.specs.Report.{shown_place, figure_of, line, lines, report_of, outcome_of, Ran, ran_of}
 use Rattle.model.proofs.RunLaws.{run_refused, run_follows}
 

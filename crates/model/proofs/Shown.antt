@@ -13,7 +13,6 @@ use lib.Seq.{get_or-append-add}
 use Rattle.terms.specs.Refusal.{if_accepted}
 use Rattle.records.specs.Record.{byte}
 use Rattle.model.specs.declared.Place.{Place}
-use Rattle.model.specs.declared.Shape.{Shape}
 use Rattle.model.specs.declared.Row.{Row}
 use Rattle.model.specs.declared.State.{State}
 use Rattle.model.specs.declared.Outcome.{Outcome}

@@ -1,5 +1,5 @@
 -- What keeps the code's indices and sums in range: every state of a run has it (proofs/Keeping.antt), so the engine tests nothing twice.
-use Rattle.std.specs.Prelude.{ℕ, ◌≤◌, ◌<◌, ◌≡◌, ◌≢◌, List, length, get_or}
+use Rattle.std.specs.Prelude.{ℕ, ◌≤◌, ◌<◌, ◌≢◌, List, length, get_or}
 use Rattle.terms.specs.Limits.{most_slots, most_steps, top_wait, unlimited}
 use Rattle.model.specs.declared.Shape.{Shape}
 use Rattle.model.specs.declared.Row.{Row}

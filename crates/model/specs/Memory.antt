@@ -1,5 +1,5 @@
 -- ANSWER: what memory says to an operation of process i at tick t, and what it then holds. The registers are the bank's, the flags are plain.
-use Rattle.std.specs.Prelude.{ℕ, Bool, true, false, cond, get_or, set}
+use Rattle.std.specs.Prelude.{ℕ, true, false, cond, get_or, set}
 use Rattle.terms.specs.declared.ProcessNumber.{ProcessNumber}
 use Rattle.bank.specs.declared.Bank.{Bank}
 use Rattle.bank.specs.Registers.{value_at, late_at, after_read, after_write}

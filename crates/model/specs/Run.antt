@@ -17,7 +17,6 @@ use Rattle.model.specs.declared.Shape.{Shape}
 use Rattle.model.specs.declared.Row.{Row}
 use Rattle.model.specs.declared.Ask.{Ask}
 use Rattle.model.specs.declared.State.{State}
-use Rattle.model.specs.declared.Outcome.{Outcome}
 use Rattle.model.specs.Time.{early, wake_at, waiting}
 use Rattle.model.specs.Routine.{routine, ask_at, row_after, crash, unmoved, begin, is_decided}
 use Rattle.model.specs.Memory.{reply, bank_after, shared_after}
