@@ -134,6 +134,6 @@ pub fn write_step(step: Step, buffer: &mut [u8]) -> Written
         t[2],
         t[3],
     ];
-    buffer[..8].copy_from_slice(&bytes);
+    buffer[..bytes.len()].copy_from_slice(&bytes);
     Written { refusal: 0, len: 8 }
 }
