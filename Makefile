@@ -17,10 +17,10 @@ test:
 	@bash .ci/run
 
 program:
-	@bash .ci/prove check bench
+	@bash .ci/prove program bench
 
 library:
-	@bash .ci/prove staticlib ghindulza
+	@bash .ci/prove library ghindulza
 
 tools:
 	@bash .ci/tools
@@ -35,7 +35,7 @@ bench: tools library
 	@for place in 0 16 32 48; do PLACE=$$place $(CARGO) run $(RUST) --example ratios || exit 1; done
 
 fmt:
-	@rt fmt
+	@for crate in crates/*; do (cd $$crate && rt fmt) || exit 1; done
 
 clean:
-	rm -rf target rust/target
+	rm -rf target rust/target crates/*/out

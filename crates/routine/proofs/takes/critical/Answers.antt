@@ -1,0 +1,14 @@
+-- `routine::takes::critical` meets its contract: a lock goes to rest, and elsewhere the move is counted. Assumes nothing.
+use Rattle.rows.proofs.RowLaws.{also, told_as, count_written, place_written}
+use Rattle.routine.proofs.takes.critical.Goals as goal
+
+pub returns-in-Lock : goal.returns-in-Lock
+returns-in-Lock c w =
+    told_as (also (count_written c.requires.row c.args.late c.count.ensures) (place_written c.requires.row _ c.to.ensures))
+    (λ l. rw c.in-Lock.is)
+
+pub returns-in-Plain : goal.returns-in-Plain
+returns-in-Plain c w = told_as (count_written c.requires.row c.args.late c.count.ensures) (λ l. rw c.in-Plain.is)
+
+pub returns-in-Fast : goal.returns-in-Fast
+returns-in-Fast c w = told_as (count_written c.requires.row c.args.late c.count.ensures) (λ l. rw c.in-Fast.is)
