@@ -13,11 +13,11 @@ use Rattle.terms.proofs.Parts.{part_to_end}
 
 -- COPIES
 
--- what `bytes::copy` leaves
+-- what a copy of `src` over the front of `dst` leaves
 pub copied : (src dst : List ℕ) → take (length src) src ++ drop (length src) dst ≡ overlay src dst
 copied src dst = rw take-length
 
--- `bytes::copy(a, buffer)`, and then `bytes::copy(b, &mut buffer[k..])` with k the length of a: both together lie over the front
+-- a copy of a over the front, and then one of b over the front of the part behind it: both together lie over the front
 pub copied_two : (a b buffer first second : List ℕ) → first ≡ take (length a) a ++ drop (length a) buffer
     → second ≡ take (length b) b ++ drop (length b) (take (length first - length a) (drop (length a) first))
     → put_mid (length a) (length first - length a) first second ≡ overlay (a ++ b) buffer
