@@ -26,6 +26,7 @@ fn is_decided(place: Place) -> bool
 
 // What refuses a step of the process in row j. Any step: 13, its tick is below the newest; 14, the process has crashed.
 // A move: 15, it has decided; 16, it still waits. 0: nothing.
+#[tactic(auto, unfolding(model::specs::Run::judge))]
 pub fn judge(shape: Shape, j: usize, rows: &[u32; NUMBERS], newest: u32, step: Step) -> u32
     requires { IsRow j }
     ensures { result ≡ Run.judge shape (row_in rows.now j) newest step }
