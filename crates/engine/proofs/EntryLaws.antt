@@ -17,7 +17,7 @@ use Rattle.model.specs.declared.Shape.{Shape}
 use Rattle.model.specs.Bounds.{Bytes, Sound, Starts}
 use Rattle.model.specs.Sizes.{line_width}
 use Rattle.model.specs.Run.{shape_of, rest_of}
-use Rattle.model.specs.Report.{Ran, ran_of}
+use Rattle.model.specs.Report.{ran_of}
 use Rattle.model.proofs.SetupSays.{setup_sound, setup_starts}
 use Rattle.model.proofs.ReportLaws.{refused_run, ran_unset, ran_narrow, ran_long, ran_on}
 use Rattle.engine.specs.Stepped.{ran_from}

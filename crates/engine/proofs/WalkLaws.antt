@@ -21,7 +21,7 @@ use Rattle.model.specs.Routine.{routine}
 use Rattle.model.specs.Memory.{Answered}
 use Rattle.model.specs.Bounds.{Sound, Room}
 use Rattle.model.specs.Run.{row_of, fresh, after, judge, reach, records, Progress, Progress.going, Progress.stopped}
-use Rattle.model.specs.Report.{lines, outcome_of, report_of, Ran}
+use Rattle.model.specs.Report.{lines, outcome_of, report_of}
 use Rattle.model.proofs.RunLaws.{record_at, judge_at, reach_start, refused_by_bytes, refused_by_judge, accepted_by_both, reach_stays, records_end, records_past}
 use Rattle.model.proofs.Rooms.{reach_room}
 use Rattle.model.proofs.ReportLaws.{ran_by, ran_stopped}
