@@ -109,7 +109,8 @@ pub fn take_step(
         (bank_of values.old deadlines.old last.old) (bank_of values.new deadlines.new last.new)
         (shared_of flags.old) (shared_of flags.new) }
 {
-    if step.event != 0 {
+    let crashes = step.event != 0;
+    if crashes {
         rows::crash(j, rows);
         return;
     }
