@@ -2,10 +2,35 @@
 // input is seen.
 #![tactic(auto)]
 
-fn main() {
+ghost use Rattle.std.specs.Prelude.{◌≡◌, ◌≤◌, ◌<◌, length, take, IfOk};
+ghost use Rattle.std.specs.Io.KnownBytes.{Consumes, IsAtEnd};
+
+use std::io;
+use std::io::{Read, Write};
+
+// Reads until the buffer is full or the input ends, and says how many bytes that were.
+fn read_full<R: Read>(input: &mut R, buffer: &mut [u8]) -> io::Result<usize>
+    ensures within { IfOk result (λ n. n ≤ length buffer.new) }
+    ensures bytes { IfOk result (λ n. Consumes (R.remaining input.old) (R.remaining input.new) (take n buffer.new)) }
+    ensures whole { IfOk result (λ n. n < length buffer.new → IsAtEnd (R.remaining input.new)) }
+{
+    let mut taken = 0;
+    while taken < buffer.len() {
+        let n = input.read(&mut buffer[taken..])?;
+        if n == 0 {
+            break;
+        }
+        taken += n;
+    }
+    Ok(taken)
+}
+
+fn main(rt: HostRuntime) -> io::Result<()> {
     let mut input = [0; listing::MOST_INPUT + 1];
-    let taken = io::read_full(0, &mut input);
+    let taken = read_full(&mut rt.stdin(), &mut input)?;
     let mut text = [0; listing::TEXT];
     let len = listing::list(&input[..taken], &mut text);
-    io::write_all(1, &text[..len]);
+    let mut output = rt.stdout();
+    output.write_all(&text[..len])?;
+    output.flush()
 }

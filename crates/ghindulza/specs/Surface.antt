@@ -1,5 +1,5 @@
 -- How the surface's numbers stand for what the layers below answer. Nothing new is decided here.
-use Rattle.std.specs.Prelude.{ℕ, ◌-◌, List, [], ◌∷◌, length}
+use Rattle.std.specs.Prelude.{ℕ, List, [], ◌∷◌, length}
 use Rattle.terms.specs.Limits.{most_processes}
 use Rattle.terms.specs.Numbers.{process_of}
 use Rattle.answers.specs.declared.WriteAnswer.{WriteAnswer}
@@ -10,7 +10,6 @@ use Rattle.bank.specs.declared.WriteResult.{WriteResult}
 use Rattle.setups.specs.declared.Setup.{Setup}
 use Rattle.steps.specs.declared.Step.{Step}
 use Rattle.setups.specs.Setup.{setup_read, setup_rest, rest_start}
-use Rattle.setups.specs.declared.SetupRead.{SetupRead}
 use Rattle.steps.specs.declared.StepRead.{StepRead}
 use Rattle.model.specs.Report.{Ran}
 

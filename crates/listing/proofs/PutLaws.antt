@@ -1,17 +1,17 @@
 -- Pieces of text in a buffer: two pieces one after the other are one piece, and the digits of a number are those of its tenth and one more.
 -- Assumes nothing.
 use mathlib.Core.Bool.{Bool, true, false, cond}
-use mathlib.Core.Path.{◌≡◌, refl, sym, ap, ◌∙◌}
-use mathlib.Core.List.{List, [], ◌∷◌, ◌++◌, append_assoc, append-nil}
+use mathlib.Core.Path.{◌≡◌, refl, sym, ap}
+use mathlib.Core.List.{List, [], ◌∷◌, ◌++◌, append-nil}
 use Prim.Native.Nat.{ℕ, zero, suc, ◌+◌, ◌-◌, ◌/◌, ◌%◌, ◌^◌, ◌≤◌, ◌<◌}
-use native.Mathlib.Nat.{pow-suc, add-zero}
+use native.Mathlib.Nat.{pow-suc, add-zero, add-sub_cancel_left}
 use native.Mathlib.Numerals.{add-one}
 use native.Mathlib.Omega.{arith}
 use borrow.Author.Tests.{lt-ltb, le-ltb}
 use borrow.Rule.Slice.PartMut.{put_mid}
 use lib.Dec.{ltb}
-use lib.ListN.{length, take, drop, set, length-append, length-take, length-drop, drop_of_length-le, take-append-drop}
-use lib.Seq.{take-length, take-append_seam, drop-append-add, drop-drop, set_split}
+use lib.ListN.{length, take, drop, set, length-append, length-drop, drop_of_length-le, take-append-drop}
+use lib.Seq.{take-length, drop-drop, set_split}
 use Rattle.terms.proofs.Parts.{part_to_end}
 use Rattle.terms.specs.Overlay.{spliced}
 use Rattle.terms.proofs.OverlayLaws.{spliced_then}
@@ -46,7 +46,7 @@ put_one b at s h =
       text = rw (add-one, set_split s at b h);
     }
 
--- a word, by `bytes::copy(word, &mut text[at..])`, which leaves `part` there
+-- a word copied over the front of the part from `at` on, which leaves `part` there
 pub put_copied : (word : List ℕ) (at : ℕ) (s part : List ℕ) → at + length word ≤ length s
     → part ≡ take (length word) word ++ drop (length word) (take (length s - at) (drop at s))
     → Put (length word) at word s (at + length word) (put_mid at (length s - at) s part)
@@ -58,6 +58,18 @@ put_copied word at s part h e =
       fits = omega arith;
       end = refl;
       text = rw (after, append-nil, e, take-length, part_to_end, drop-drop);
+    }
+
+-- a word, by `text[at..end].copy_from_slice(word)`
+pub put_filled : (word : List ℕ) (at : ℕ) (s : List ℕ) → at + length word ≤ length s
+    → Put (length word) at word s (at + length word) (put_mid at (at + length word - at) s word)
+unfolding spliced
+put_filled word at s h =
+    record {
+      short = omega arith;
+      fits = omega arith;
+      end = refl;
+      text = rw (add-sub_cancel_left, drop-drop);
     }
 
 -- the same piece told otherwise, and with another bound

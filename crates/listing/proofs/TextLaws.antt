@@ -30,7 +30,8 @@ refused_number k (suc x) p h = h
 pub accepted_fits : (trace old : List ℕ) → (ran_of most_processes trace old).outcome.number ≡ 0 → line_width * byte 3 trace ≤ length old
 unfolding ran_of run_on run_refusal
 accepted_fits trace old h =
-    let none = refused_number (records (rest_of trace)) (run_refusal most_processes trace (length old)) (reached most_processes trace (records (rest_of trace))) h in
+    let n = records (rest_of trace) in
+    let none = refused_number n (run_refusal most_processes trace (length old)) (reached most_processes trace n) h in
     let first = (passed 7 _ (ltb (8 * most_steps) (length (rest_of trace))) none).0 in
     ltb-false (length old) (line_width * byte 3 trace) (passed 6 (setup_refusal most_processes trace) _ first).1
 
