@@ -51,7 +51,7 @@ fn figure(kind: Kind, j: usize, rows: &[u32; NUMBERS]) -> u32
 // The line of the process with row j, at the report's number `at`.
 pub fn write_line(kind: Kind, j: usize, rows: &[u32; NUMBERS], at: usize, report: &mut [u32])
     requires row { IsRow j }
-    requires line_width_in_bounds { at + line_width ≤ length report.old }
+    requires room { at + line_width ≤ length report.old }
     ensures { report.new ≡ spliced at (line (routine_of kind) (row_in rows.now j)) report.old }
 {
     report[at] = shown_place(j, rows);
@@ -63,7 +63,7 @@ pub fn write_line(kind: Kind, j: usize, rows: &[u32; NUMBERS], at: usize, report
 // The lines of all processes, over the report's first numbers.
 pub fn write_lines(shape: Shape, rows: &[u32; NUMBERS], report: &mut [u32])
     requires count_le_most_processes { shape.count ≤ most_processes }
-    requires count_in_bounds { line_width * shape.count ≤ length report.old }
+    requires room { line_width * shape.count ≤ length report.old }
     ensures { report.new ≡ overlay (lines (routine shape) (rows_in rows.now) shape.count) report.old }
 {
     let kind = shape.kind;

@@ -20,7 +20,7 @@ use terms::{Trace, Wait};
 // Every process begins, in rows that are blank.
 fn begin_rows(shape: Shape, starts: [u8; PLACES], rows: &mut [u32; NUMBERS])
     requires count_le_most_processes { shape.count ≤ most_processes }
-    requires rows_value { rows.old ≡ replicate rows_width 0 }
+    requires blank { rows.old ≡ replicate rows_width 0 }
     ensures whole { Whole rows.new }
     ensures rows_after { rows_in rows.new ≡ start_rows shape 0 starts }
 {
@@ -83,7 +83,7 @@ fn run_steps(shape: Shape, starts: [u8; PLACES], rest: &[u8], report: &mut [u32]
     requires sound { Sound shape }
     requires starts { Starts shape starts }
     requires rest_len_bound { length rest.now ≤ 8 * most_steps }
-    requires count_in_bounds { line_width * shape.count ≤ length report.old }
+    requires room { line_width * shape.count ≤ length report.old }
     ensures { record { outcome = result; report = report.new } ≡ ran_from shape starts rest.now report.old }
 {
     let mut rows = [0u32; NUMBERS];
@@ -133,7 +133,8 @@ pub fn run(trace: &[u8], report: &mut [u32]) -> Outcome
     }
     let setup = read.setup;
     let n = setup.processes as usize;
-    if report.len() < LINE * n {
+    let short = report.len() < LINE * n;
+    if short {
         return Outcome { number: 7, at: 0 };
     }
     let begin = 8 + n;

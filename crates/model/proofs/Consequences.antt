@@ -212,7 +212,8 @@ module _ {u : Shape} {s : State} (point : Point u s) where
 
   -- AS SHOWN
   module _ (i j : ℕ) where
-    pub shown_exclusion : shown_place (row_at s i) ≡ 5 → shown_place (row_at s j) ≡ 5 → figure_of (routine u) (row_at s i) ≡ figure_of (routine u) (row_at s j) → i ≡ j
+    pub shown_exclusion : shown_place (row_at s i) ≡ 5 → shown_place (row_at s j) ≡ 5
+        → figure_of (routine u) (row_at s i) ≡ figure_of (routine u) (row_at s j) → i ≡ j
     shown_exclusion a b e =
         let q = shows_inside (row_at s j) b in
         let slot = slot_figure (routine u) (row_at s j).local.place (reaches j) q in

@@ -130,7 +130,8 @@ get_or-start_rows u i (x ∷ xs) (suc j) h = get_or-start_rows u (suc i) xs j (o
 module _ (u : Shape) (so : Sound u) (xs : List ℕ) (st : Starts u xs) where
   -- at the start: what holds of each row that begins, and of blank ones, holds of all
   pub fresh_rows : (P : ℕ → Row → Type 0) → ((j : ℕ) → u.count ≤ j → P j blank)
-      → ((j : ℕ) → j < u.count → start_ok (routine u) u.size (get_or xs j 0) → P j (begin (routine u) j (get_or xs j 0))) → (j : ℕ) → P j (row_at (fresh u xs) j)
+      → ((j : ℕ) → j < u.count → start_ok (routine u) u.size (get_or xs j 0) → P j (begin (routine u) j (get_or xs j 0)))
+      → (j : ℕ) → P j (row_at (fresh u xs) j)
   unfolding fresh
   fresh_rows P none some j = by (ltb j u.count) refl (ltb j (length xs)) refl
     where
@@ -157,7 +158,8 @@ module _ (u : Shape) (so : Sound u) (xs : List ℕ) (st : Starts u xs) where
 
   -- what holds at the start and is kept by each accepted record of a kept state holds after each of them
   pub each_kept : (rest : List ℕ) (P : ℕ → State → Type 0) → P 0 (fresh u xs)
-      → ((k : ℕ) (s : State) → reach u (fresh u xs) rest k ≡ going s → Kept u s → Admitted u s (step_at rest k) → P k s → P (suc k) (after u s (step_at rest k)))
+      → ((k : ℕ) (s : State) → reach u (fresh u xs) rest k ≡ going s → Kept u s
+      → Admitted u s (step_at rest k) → P k s → P (suc k) (after u s (step_at rest k)))
       → (k : ℕ) {s : State} → reach u (fresh u xs) rest k ≡ going s → Kept u s × P k s
   each_kept rest P start keep k e =
       let all = each_record (step_tape u rest) (fresh u xs) Q (reach_start u (fresh u xs) rest, kept_fresh, start) kept k e in

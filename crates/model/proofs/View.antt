@@ -144,7 +144,8 @@ module _ (k : Clock) (u : Shape) (s : State) (i : ProcessNumber) (t : ℕ) (sh :
   unfolding move_at
   seat_path p b e o =
       subst (λ (y : Bool). seat_of (move_at u p s i t) ≡ put (seat_of s) (index_of i) (record { row = row_after_lem p y; deadline = deadline_after p y })) e
-      (seats s (index_of i) t (row_after_lem p (told p (row_of s i) (answer p))) (bank_after_lem p) (shared_after s.shared (ask_at p u.delta (row_of s i))) in_rows
+      (seats s (index_of i) t (row_after_lem p (told p (row_of s i) (answer p))) (bank_after_lem p) (shared_after s.shared (ask_at p u.delta (row_of s i)))
+      in_rows
       (others s i t sh (ask_at p u.delta (row_of s i)) o))
 
   -- what the theorems see of a move at place p, having learnt b

@@ -59,8 +59,8 @@ module _ (last : ℕ) (i : ProcessNumber) (c : SlotNumber) (t : ℕ) where
   pub read_accepted_good : (d : ℕ) → read_refusal last i c t d ≡ 0 → (call_refusal last i c t ≡ 0) × IsWait d
   unfolding read_refusal
   read_accepted_good d h =
-      let last_Line = passed 17 (call_refusal last i c t) (ltb top_wait d && not (eqb d unlimited)) h in
-      (last_Line.0, wait_good d last_Line.1)
+      let last_line = passed 17 (call_refusal last i c t) (ltb top_wait d && not (eqb d unlimited)) h in
+      (last_line.0, wait_good d last_line.1)
 
   pub good_read_accepted : (d : ℕ) → call_refusal last i c t ≡ 0 → IsWait d → read_refusal last i c t d ≡ 0
   unfolding read_refusal

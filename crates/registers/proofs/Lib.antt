@@ -1,3 +1,2 @@
-pub mod Outcomes
 pub mod Pairs
 pub mod Settled

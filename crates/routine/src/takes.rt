@@ -25,12 +25,13 @@ fn leave(shape: Shape, j: usize, rows: &[u32; NUMBERS]) -> SlotNumber
 fn filled(shape: Shape, j: usize, rows: &[u32; NUMBERS]) -> SlotNumber
     requires row { IsRow j }
     requires sound { Sound shape }
-    requires j_bound { (row_in rows.now j).local.slot.0 < most_slots }
+    requires slot { (row_in rows.now j).local.slot.0 < most_slots }
     ensures { result ≡ (slots_of SlotRule.Ring shape (row_in rows.now j).local).filled }
 {
     let c = rows::slot(j, rows);
     let next = c.0 + 1;
-    if next < shape.size {
+    let inside = next < shape.size;
+    if inside {
         return SlotNumber(next);
     }
     if next == shape.size {

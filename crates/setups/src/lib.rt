@@ -229,8 +229,8 @@ pub fn read_setup(trace: &[u8]) -> SetupRead
 
 // The rest of a trace after its setup; on refusal the empty part at the trace's beginning.
 pub fn setup_rest(trace: &[u8]) -> &[u8]
-    ensures result_value { result.now ≡ setup_rest most_processes trace.now }
-    ensures ref_ptr_value { result.ref_ptr ≡ (trace.entry.ref_ptr.0, rest_start most_processes trace.now + trace.entry.ref_ptr.1) }
+    ensures bytes { result.now ≡ setup_rest most_processes trace.now }
+    ensures place { result.ref_ptr ≡ (trace.entry.ref_ptr.0, rest_start most_processes trace.now + trace.entry.ref_ptr.1) }
 {
     let read = read_setup(trace);
     if read.refusal != 0 {

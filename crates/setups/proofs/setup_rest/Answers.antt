@@ -25,11 +25,11 @@ module _ (c : After-wide-end) where
   end : 8 + c.wide-end.result ≤ length c.args.trace.now
   end = rw count (setup_said _ c.args.trace.now accepted).head.whole
 
-pub returns-then-read-ne0-clause-result_value : goal.returns-then-read-ne0-clause-result_value
-returns-then-read-ne0-clause-result_value c = sym (refused c).0
+pub returns-then-read-ne0-clause-bytes : goal.returns-then-read-ne0-clause-bytes
+returns-then-read-ne0-clause-bytes c = sym (refused c).0
 
-pub returns-then-read-ne0-clause-ref_ptr_value : goal.returns-then-read-ne0-clause-ref_ptr_value
-returns-then-read-ne0-clause-ref_ptr_value c = simp ((refused c).1, zero-add)
+pub returns-then-read-ne0-clause-place : goal.returns-then-read-ne0-clause-place
+returns-then-read-ne0-clause-place c = simp ((refused c).1, zero-add)
 
 pub slice_bounds-result-count : goal.slice_bounds-result-count
 slice_bounds-result-count c = omega (arith, end c)
@@ -37,13 +37,13 @@ slice_bounds-result-count c = omega (arith, end c)
 pub slice_bounds-result-start : goal.slice_bounds-result-start
 slice_bounds-result-start c = omega (arith, end c)
 
-pub returns-clause-result_value : goal.returns-clause-result_value
-returns-clause-result_value c =
-    let d = (goal.at.returns-clause-result_value c).After-wide-end in
+pub returns-clause-bytes : goal.returns-clause-bytes
+returns-clause-bytes c =
+    let d = (goal.at.returns-clause-bytes c).After-wide-end in
     let s = c.args.trace.now in
     part_to_end (8 + c.wide-end.result) s ∙ ap (λ (n : ℕ). drop (8 + n) s) (count d) ∙ sym (rest_accepted _ _ (accepted d)).0
 
-pub returns-clause-ref_ptr_value : goal.returns-clause-ref_ptr_value
-returns-clause-ref_ptr_value c =
-    let d = (goal.at.returns-clause-ref_ptr_value c).After-wide-end in
+pub returns-clause-place : goal.returns-clause-place
+returns-clause-place c =
+    let d = (goal.at.returns-clause-place c).After-wide-end in
     simp (count d, (rest_accepted _ _ (accepted d)).1)

@@ -8,4 +8,4 @@ pub returns : goal.returns
 returns c =
     let a = c.args in
     rw (c.shown_place.ensures, c.figure.ensures, c.moves.ensures, c.lates.ensures)
-    (line_stored (routine_of a.kind) (row_in a.rows.now a.j) a.at a.report.now c.requires.line_width_in_bounds)
+    (line_stored (routine_of a.kind) (row_in a.rows.now a.j) a.at a.report.now c.requires.room)

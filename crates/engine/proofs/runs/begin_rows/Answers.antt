@@ -8,7 +8,7 @@ use Rattle.engine.proofs.runs.begin_rows.Goals as goal
 pub loop-j-init : goal.loop-j-init
 loop-j-init c =
     let a = c.args in
-    record { within = omega arith; whole = search rules; filled = rw c.requires.rows_value (begins_none a.shape a.starts) }
+    record { within = omega arith; whole = search rules; filled = rw c.requires.blank (begins_none a.shape a.starts) }
 
 pub loop-j-preserved : goal.loop-j-preserved
 loop-j-preserved c =

@@ -2,16 +2,16 @@
 use Rattle.std.proofs.Common.{◌∙◌, ◌+◌, ◌≤◌, length, arith, rules}
 use Rattle.engine.proofs.EntryLaws.{unset, begins_inside, narrow, too_long, sound, starts, goes_on}
 use Rattle.engine.proofs.runs.run.Goals as goal
-use Rattle.engine.proofs.runs.run.Goals.{Else-report-n}
+use Rattle.engine.proofs.runs.run.Goals.{Else-short}
 
-inside : (c : Else-report-n) → 8 + c.read_setup-read.result.setup.processes ≤ length c.args.trace.now
+inside : (c : Else-short) → 8 + c.read_setup-read.result.setup.processes ≤ length c.args.trace.now
 inside c = begins_inside c.args.trace.now _ c.read_setup-read.ensures c.if-no-ne0.false
 
 pub returns-then-no-ne0 : goal.returns-then-no-ne0
 returns-then-no-ne0 c = unset c.args.trace.now _ c.read_setup-read.ensures c.if-no-ne0.true c.args.report.now
 
-pub returns-then-report-n : goal.returns-then-report-n
-returns-then-report-n c = narrow c.args.trace.now _ c.read_setup-read.ensures c.if-no-ne0.false c.args.report.now (omega arith)
+pub returns-then-short : goal.returns-then-short
+returns-then-short c = narrow c.args.trace.now _ c.read_setup-read.ensures c.if-no-ne0.false c.args.report.now (omega (arith, c.if-short.true))
 
 pub slice_bounds-rest-count : goal.slice_bounds-rest-count
 slice_bounds-rest-count c = inside c

@@ -5,7 +5,7 @@ use Rattle.terms.specs.declared.SlotNumber.{SlotNumber}
 use Rattle.terms.specs.Numbers.{slot_of}
 use Rattle.routine.proofs.takes.filled.Goals as goal
 
-pub returns-then-next-shape : goal.returns-then-next-shape
-returns-then-next-shape c =
-    let below : c.slot-c.result.0 + 1 < c.args.shape.size = omega (arith, c.if-next-shape.true) in
+pub returns-then-inside : goal.returns-then-inside
+returns-then-inside c =
+    let below : c.slot-c.result.0 + 1 < c.args.shape.size = omega (arith, c.if-inside.true) in
     ap slot_of (sym (ap (λ (s : SlotNumber). (s.0 + 1) % c.args.shape.size) (sym c.slot-c.ensures) ∙ mod-eq_of_lt below))

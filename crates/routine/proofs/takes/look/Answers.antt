@@ -13,8 +13,8 @@ returns-then-v-eq0 c w =
     told_as (also (count_written c.requires.row false c.count.ensures) (place_written c.requires.row _ c.to.ensures))
     (λ l. looked c.args.shape w _ c.args.v c.if-v-eq0.true)
 
-pub filled-c-requires-clause-j_bound : goal.filled-c-requires-clause-j_bound
-filled-c-requires-clause-j_bound c =
+pub filled-c-requires-clause-slot : goal.filled-c-requires-clause-slot
+filled-c-requires-clause-slot c =
     let counted = count_written c.requires.row false c.count.ensures in
     subst (λ (r : Row). r.local.slot.0 < most_slots) (sym (counted.row c.requires.whole)) c.requires.room.slot
 
