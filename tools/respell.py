@@ -7,8 +7,10 @@ A definition is in snake case, and so is a lemma: a dash stays only between two 
 definition's name ends in _lem; the proof of a function f is f_spec. Functions of src/, exported names, strings, inputs and outputs are not touched:
 no key of the table below is a word of theirs. In a .rt file only the keys in camel case are looked for, in prose those and, between backticks, all.
 """
+import os
 import re
 import subprocess
+import sys
 
 TABLE = """
 +put-number-spec +put_number_spec
@@ -949,6 +951,8 @@ def antt(text):
 
 
 def main():
+    if os.path.exists("docs/PORT.md"):
+        sys.exit("respell.py: this tree is ported already (docs/PORT.md); it runs once, right after port.py")
     files = subprocess.run(["git", "ls-files"], capture_output=True, text=True, check=True).stdout.split("\n")
     for name in files:
         if name.endswith(".antt"):

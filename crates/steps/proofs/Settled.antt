@@ -3,13 +3,13 @@
 use mathlib.Core.Path.{refl, sym, ◌∙◌}
 use Rattle.terms.proofs.Settles.{Settles}
 use Rattle.steps.proofs.read_step.Kinds as read_step_kinds
-use Rattle.steps.proofs.read_step.Reads as Read-step
+use Rattle.steps.proofs.read_step.Reads as read_step
 use Rattle.steps.proofs.read_step_of.Kinds as read_step_of_kinds
 use Rattle.steps.proofs.read_step_of.Reads as read_step_of
 use Rattle.steps.proofs.write_step.Kinds as write_step_kinds
 use Rattle.steps.proofs.write_step.Reads as write_step
 
-pub read_step_settles : Settles 1 read_step_kinds.ps read_step_kinds.r Read-step.Post
+pub read_step_settles : Settles 1 read_step_kinds.ps read_step_kinds.r read_step.Post
 read_step_settles κs a x y u v p q = (p ∙ sym q, refl)
 
 pub read_step_of_settles : Settles 1 read_step_of_kinds.ps read_step_of_kinds.r read_step_of.Post
