@@ -6,12 +6,7 @@ use Prim.Native.Nat.{ℕ, zero, suc}
 use native.Mathlib.Omega.{arith}
 use Rattle.terms.proofs.RefusalLaws.{not_outside}
 use Rattle.kinds.specs.declared.Kind.{Kind}
-use Rattle.kinds.specs.Kinds.{last_kind, bad_kind, kind_of}
-
-abbrev pub number_of : Kind → ℕ
-number_of Kind.Lock = 1
-number_of Kind.Plain = 2
-number_of Kind.Fast = 3
+use Rattle.kinds.specs.Kinds.{last_kind, bad_kind, kind_of, number_of}
 
 pub kind_of_number : (κ : Kind) → kind_of (number_of κ) ≡ κ
 kind_of_number Kind.Lock = refl

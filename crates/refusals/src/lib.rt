@@ -1,78 +1,65 @@
 // What a call of the bank is refused for, by its numbers alone: 11, 17, 13 and, for a read, 18, in the order of document 01.
-#![tactic(auto)]
+#![tactic(
+  auto,
+  using(terms::proofs::RefusalLaws::stops, terms::proofs::RefusalLaws::goes_on),
+  unfolding(crate::specs::Refusals::call_refusal, crate::specs::Refusals::read_refusal)
+)]
 
 ghost use Rattle.std.specs.Prelude.{◌≡◌};
+ghost use Rattle.terms.specs.Refusal.{refusal_in};
 ghost use Rattle.refusals.specs.Refusals.{process_refusal, slot_refusal, tick_refusal, wait_refusal, call_refusal, read_refusal};
 
-use terms::{ProcessNumber, SlotNumber, Trace, Wait};
+use terms::{ProcessNumber, Refusal, SlotNumber, Trace, Wait};
 
-fn process_refusal(i: ProcessNumber) -> u32
-    ensures { result ≡ process_refusal i }
+fn process_refusal(i: ProcessNumber) -> Result<(), Refusal>
+    ensures { refusal_in result ≡ process_refusal i }
 {
-    if i.0 < 1 {
-        return 11;
+    if i.0 < 1 || Trace::PROCESSES < i.0 {
+        return Err(Refusal::Process);
     }
-    if Trace::PROCESSES < i.0 {
-        return 11;
-    }
-    0
+    Ok(())
 }
 
-fn slot_refusal(c: SlotNumber) -> u32
-    ensures { result ≡ slot_refusal c }
+fn slot_refusal(c: SlotNumber) -> Result<(), Refusal>
+    ensures { refusal_in result ≡ slot_refusal c }
 {
     if Trace::SLOTS <= c.0 {
-        return 17;
+        return Err(Refusal::Register);
     }
-    0
+    Ok(())
 }
 
-fn tick_refusal(last: u32, t: u32) -> u32
-    ensures { result ≡ tick_refusal last t }
+fn tick_refusal(last: u32, t: u32) -> Result<(), Refusal>
+    ensures { refusal_in result ≡ tick_refusal last t }
 {
-    if Trace::TOP_TICK < t {
-        return 13;
+    if Trace::TOP_TICK < t || t < last {
+        return Err(Refusal::Tick);
     }
-    if t < last {
-        return 13;
-    }
-    0
+    Ok(())
 }
 
-fn wait_refusal(d: u32) -> u32
-    ensures { result ≡ wait_refusal d }
+fn wait_refusal(d: u32) -> Result<(), Refusal>
+    ensures { refusal_in result ≡ wait_refusal d }
 {
-    if d <= Wait::TOP {
-        return 0;
+    if Wait::TOP < d && d != Wait::UNLIMITED {
+        return Err(Refusal::Wait);
     }
-    if d == Wait::UNLIMITED {
-        return 0;
-    }
-    18
+    Ok(())
 }
 
-// What a read and a write are refused for alike, 0 for nothing: 11, 17, 13.
-pub fn call_refusal(last: u32, i: ProcessNumber, c: SlotNumber, t: u32) -> u32
-    ensures { result ≡ call_refusal last i c t }
+// What a read and a write are refused for alike: 11, 17, 13.
+pub fn call_refusal(last: u32, i: ProcessNumber, c: SlotNumber, t: u32) -> Result<(), Refusal>
+    ensures { refusal_in result ≡ call_refusal last i c t }
 {
-    let process = process_refusal(i);
-    if process != 0 {
-        return process;
-    }
-    let slot = slot_refusal(c);
-    if slot != 0 {
-        return slot;
-    }
+    process_refusal(i)?;
+    slot_refusal(c)?;
     tick_refusal(last, t)
 }
 
 // A read is refused for its wait as well: 18.
-pub fn read_refusal(last: u32, i: ProcessNumber, c: SlotNumber, t: u32, d: u32) -> u32
-    ensures { result ≡ read_refusal last i c t d }
+pub fn read_refusal(last: u32, i: ProcessNumber, c: SlotNumber, t: u32, d: u32) -> Result<(), Refusal>
+    ensures { refusal_in result ≡ read_refusal last i c t d }
 {
-    let call = call_refusal(last, i, c, t);
-    if call != 0 {
-        return call;
-    }
+    call_refusal(last, i, c, t)?;
     wait_refusal(d)
 }

@@ -1,16 +1,18 @@
 -- Laws of refusal tables: how a table is read forwards (a test that holds, one that does not) and backwards (what an accepted table says).
 -- Assumes nothing.
-use mathlib.Core.Path.{◌≡◌, refl}
+use mathlib.Core.Path.{◌≡◌, refl, sym, ap, ◌∙◌}
 use mathlib.Core.Bool.{Bool, true, false, ◌||◌, ◌&&◌, true≢false, false≢true}
-use mathlib.Core.List.{List}
-use Prim.Native.Nat.{ℕ, zero, suc, ◌+◌, ◌≤◌, ◌<◌}
+use mathlib.Core.List.{List, [], ◌∷◌}
+use Prim.Native.Nat.{ℕ, zero, suc, ◌+◌, ◌-◌, ◌≤◌, ◌<◌}
 use native.Mathlib.Numerals.{add-one}
 use native.Mathlib.Omega.{arith}
 use borrow.Author.Tests.{ltb-false, le-ltb}
 use lib.ListN.{length, get_or, drop, drop_of_length-le}
 use lib.Seq.{drop-cons}
 use lib.Dec.{ltb}
-use Rattle.terms.specs.Refusal.{refuse, ◌then◌, if_accepted, outside, any_from}
+use Rattle.std.specs.Prelude.{Result, Ok, Err}
+use Rattle.terms.specs.declared.Refusal.{Refusal}
+use Rattle.terms.specs.Refusal.{refuse, ◌then◌, if_accepted, outside, any_from, number, refusal_in}
 
 -- a test that accepts hands on, and one that refuses decides
 pub then_on : (a b : ℕ) → a ≡ 0 → (a then b) ≡ b
@@ -65,3 +67,72 @@ module _ (bad : ℕ → ℕ → Bool) (s : List ℕ) (i : ℕ) where
 
   pub any_none : length s ≤ i → any_from i bad (drop i s) ≡ false
   any_none h = rw (drop_of_length-le s h)
+
+-- WHAT REFUSES, BY NAME
+
+-- the names in the order of their numbers: a number has one name
+abbrev in_order : List Refusal
+in_order =
+    Refusal.SetupCut ∷ Refusal.SetupMark ∷ Refusal.Kind ∷ Refusal.Processes ∷ Refusal.Size ∷ Refusal.Start ∷ Refusal.ReportShort ∷
+    Refusal.TraceLong ∷ Refusal.StepCut ∷ Refusal.StepMark ∷ Refusal.Process ∷ Refusal.Event ∷ Refusal.Tick ∷ Refusal.Crashed ∷
+    Refusal.Decided ∷ Refusal.Waiting ∷ Refusal.Register ∷ Refusal.Wait ∷ Refusal.BufferShort ∷ []
+
+abbrev named : ℕ → Refusal
+named k = get_or in_order (k - 1) Refusal.BufferShort
+
+named_number : (e : Refusal) → named (number e) ≡ e
+named_number Refusal.SetupCut = refl
+named_number Refusal.SetupMark = refl
+named_number Refusal.Kind = refl
+named_number Refusal.Processes = refl
+named_number Refusal.Size = refl
+named_number Refusal.Start = refl
+named_number Refusal.ReportShort = refl
+named_number Refusal.TraceLong = refl
+named_number Refusal.StepCut = refl
+named_number Refusal.StepMark = refl
+named_number Refusal.Process = refl
+named_number Refusal.Event = refl
+named_number Refusal.Tick = refl
+named_number Refusal.Crashed = refl
+named_number Refusal.Decided = refl
+named_number Refusal.Waiting = refl
+named_number Refusal.Register = refl
+named_number Refusal.Wait = refl
+named_number Refusal.BufferShort = refl
+
+-- none has the number 0
+pub some_number : (e : Refusal) → number e ≡ 0 → ⊥
+some_number Refusal.SetupCut h = absurd (omega (arith, h))
+some_number Refusal.SetupMark h = absurd (omega (arith, h))
+some_number Refusal.Kind h = absurd (omega (arith, h))
+some_number Refusal.Processes h = absurd (omega (arith, h))
+some_number Refusal.Size h = absurd (omega (arith, h))
+some_number Refusal.Start h = absurd (omega (arith, h))
+some_number Refusal.ReportShort h = absurd (omega (arith, h))
+some_number Refusal.TraceLong h = absurd (omega (arith, h))
+some_number Refusal.StepCut h = absurd (omega (arith, h))
+some_number Refusal.StepMark h = absurd (omega (arith, h))
+some_number Refusal.Process h = absurd (omega (arith, h))
+some_number Refusal.Event h = absurd (omega (arith, h))
+some_number Refusal.Tick h = absurd (omega (arith, h))
+some_number Refusal.Crashed h = absurd (omega (arith, h))
+some_number Refusal.Decided h = absurd (omega (arith, h))
+some_number Refusal.Waiting h = absurd (omega (arith, h))
+some_number Refusal.Register h = absurd (omega (arith, h))
+some_number Refusal.Wait h = absurd (omega (arith, h))
+some_number Refusal.BufferShort h = absurd (omega (arith, h))
+
+-- what refuses decides a table; where nothing does, the rest of it
+pub stops : (e : Refusal) (a b : ℕ) → number e ≡ a → number e ≡ (a then b)
+stops e a b h = rw (← h, then_stop (number e) (some_number e) b)
+
+pub goes_on : (a b : ℕ) → 0 ≡ a → {k : ℕ} → k ≡ b → k ≡ (a then b)
+goes_on a b h e = rw (← h) e
+
+-- an answer is settled by its numbers
+pub refusal_settles : (x y : Result (Unit {0}) Refusal) → refusal_in x ≡ refusal_in y → x ≡ y
+refusal_settles (Ok a) (Ok b) h = refl
+refusal_settles (Ok a) (Err e) h = absurd (some_number e (sym h))
+refusal_settles (Err e) (Ok b) h = absurd (some_number e h)
+refusal_settles (Err d) (Err e) h = ap Err (sym (named_number d) ∙ ap named h ∙ named_number e)
