@@ -1,6 +1,8 @@
 -- Laws of what both records have: marks, bytes, lists of good bytes, and what a writer leaves.
 -- Assumes nothing.
-use mathlib.Core.Path.{◌≡◌, refl, sym, ◌∙◌, ap}
+use mathlib.Core.Path.{◌≡◌, refl, sym, ◌∙◌}
+use native.Mathlib.Decide.{ℕ_discrete}
+use Rattle.std.specs.Prelude.{Result, Ok, Err}
 use mathlib.Core.Bool.{Bool, true, false}
 use mathlib.Core.List.{List, [], ◌∷◌}
 use Prim.Native.Nat.{ℕ, zero, suc, ◌+◌, ◌<◌}
@@ -11,9 +13,8 @@ use lib.ListN.{length, get_or}
 use Rattle.terms.specs.Little.{AllBytes}
 use Rattle.terms.specs.Overlay.{overlay}
 use Rattle.terms.specs.Refusal.{any_from}
-use Rattle.terms.proofs.RefusalLaws.{both_false, both_true, if_refused}
+use Rattle.terms.proofs.RefusalLaws.{both_false, both_true, if_refused, ok_is_no_error}
 use Rattle.records.specs.Record.{byte, marked, Wrote}
-use Rattle.records.specs.declared.Written.{Written}
 
 -- a list that a mark stands before has its two bytes, and the other way round
 pub marked_said : (mark s : List ℕ) → marked mark s ≡ true → (byte 0 s ≡ byte 0 mark) × (byte 1 s ≡ byte 1 mark)
@@ -49,24 +50,17 @@ all_good i bad (x ∷ xs) h =
     let next : (j : ℕ) → suc i + j ≡ i + suc j = λ j. omega arith in
     rw (first, all_good (suc i) bad xs (λ j below. rw (next j) (h (suc j) (omega arith))))
 
-module _ (refusal : ℕ) (rec before : List ℕ) (r : Written) (after : List ℕ) where
-  -- a writer's refusal with k, and its acceptance
-  pub wrote_refused : (k : ℕ) → refusal ≡ k → (k ≡ 0 → ⊥) → r ≡ record { refusal = k; len = 0 } → after ≡ before → Wrote refusal rec before r after
-  wrote_refused k e h a b = record { answer = a ∙ simp (e, if_refused k h); buffer = b ∙ simp (e, if_refused k h) }
+-- what a promise says where its table accepts, where it refuses, and of an answer that is no refusal
+module _ (refusal : ℕ) (rec before : List ℕ) (r : Result ℕ ℕ) (after : List ℕ) (w : Wrote refusal rec before r after) where
+  pub wrote_whole : refusal ≡ 0 → (r ≡ Ok (length rec)) × (after ≡ overlay rec before)
+  wrote_whole e = (w.answer ∙ simp e, w.buffer ∙ simp e)
 
-  pub wrote_accepted : (n : ℕ) → refusal ≡ 0 → r ≡ record { refusal = 0; len = n } → n ≡ length rec → after ≡ overlay rec before
-      → Wrote refusal rec before r after
-  wrote_accepted n e a l b = record { answer = a ∙ simp (e, l); buffer = b ∙ simp e }
+  pub wrote_nothing : (refusal ≡ 0 → ⊥) → (r ≡ Err refusal) × (after ≡ before)
+  wrote_nothing h = (w.answer ∙ if_refused refusal h _ _, w.buffer ∙ if_refused refusal h _ _)
 
-  -- what a promise says where its table accepts, where it refuses, and where the answer's number is 0
-  module _ (w : Wrote refusal rec before r after) where
-    pub wrote_whole : refusal ≡ 0 → (r ≡ record { refusal = 0; len = length rec }) × (after ≡ overlay rec before)
-    wrote_whole e = (w.answer ∙ simp e, w.buffer ∙ simp e)
-
-    pub wrote_nothing : (refusal ≡ 0 → ⊥) → (r ≡ record { refusal = refusal; len = 0 }) × (after ≡ before)
-    wrote_nothing h = (w.answer ∙ simp (if_refused refusal h), w.buffer ∙ simp (if_refused refusal h))
-
-    pub wrote_said : r.refusal ≡ 0 → (refusal ≡ 0) × (after ≡ overlay rec before)
-    wrote_said ok =
-        let e : refusal ≡ 0 = sym (ap (λ (x : Written). x.refusal) w.answer) ∙ ok in
-        (e, (wrote_whole e).1)
+  pub wrote_said : {n : ℕ} → r ≡ Ok n → (refusal ≡ 0) × (after ≡ overlay rec before)
+  wrote_said {n} ok = by (ℕ_discrete refusal 0)
+    where
+      by : Dec (refusal ≡ 0) → (refusal ≡ 0) × (after ≡ overlay rec before)
+      by (yes e) = (e, (wrote_whole e).1)
+      by (no h) = absurd (ok_is_no_error (sym ok ∙ (wrote_nothing h).0))

@@ -11,8 +11,9 @@ use lib.ListN.{length, get_or, drop, drop_of_length-le}
 use lib.Seq.{drop-cons}
 use lib.Dec.{ltb}
 use Rattle.std.specs.Prelude.{Result, Ok, Err}
+use Rattle.std.specs.Result.{result_unwrap_or}
 use Rattle.terms.specs.declared.Refusal.{Refusal}
-use Rattle.terms.specs.Refusal.{refuse, ◌then◌, if_accepted, outside, any_from, number, refusal_in}
+use Rattle.terms.specs.Refusal.{refuse, ◌then◌, if_accepted, outside, any_from, number, refusal_in, numbered}
 
 -- a test that accepts hands on, and one that refuses decides
 pub then_on : (a b : ℕ) → a ≡ 0 → (a then b) ≡ b
@@ -101,6 +102,9 @@ named_number Refusal.Register = refl
 named_number Refusal.Wait = refl
 named_number Refusal.BufferShort = refl
 
+pub same_name : (d e : Refusal) → number d ≡ number e → d ≡ e
+same_name d e h = sym (named_number d) ∙ ap named h ∙ named_number e
+
 -- none has the number 0
 pub some_number : (e : Refusal) → number e ≡ 0 → ⊥
 some_number Refusal.SetupCut h = absurd (omega (arith, h))
@@ -135,4 +139,14 @@ pub refusal_settles : (x y : Result (Unit {0}) Refusal) → refusal_in x ≡ ref
 refusal_settles (Ok a) (Ok b) h = refl
 refusal_settles (Ok a) (Err e) h = absurd (some_number e (sym h))
 refusal_settles (Err e) (Ok b) h = absurd (some_number e h)
-refusal_settles (Err d) (Err e) h = ap Err (sym (named_number d) ∙ ap named h ∙ named_number e)
+refusal_settles (Err d) (Err e) h = ap Err (same_name d e h)
+
+pub ok_is_no_error : {A E : Type 0} {x : A} {e : E} → ◌≡◌ {A = Result A E} (Ok x) (Err e) → ⊥
+ok_is_no_error h = cc
+
+-- the same of an answer with its number
+pub numbers_settle : {A : Type 0} (x y : Result A Refusal) → numbered x ≡ numbered y → x ≡ y
+numbers_settle (Ok a) (Ok b) h = ap Ok (ap (λ r. result_unwrap_or r a) h)
+numbers_settle (Ok a) (Err e) h = absurd (ok_is_no_error h)
+numbers_settle (Err e) (Ok b) h = absurd (ok_is_no_error (sym h))
+numbers_settle (Err d) (Err e) h = ap Err (same_name d e (ap (λ r. elim r [ Ok x ↦ 0 | Err k ↦ k ]) h))
