@@ -1,9 +1,5 @@
 // What a call of the bank is refused for, by its numbers alone: 11, 17, 13 and, for a read, 18, in the order of document 01.
-#![tactic(
-  auto,
-  using(terms::proofs::RefusalLaws::stops, terms::proofs::RefusalLaws::goes_on),
-  unfolding(crate::specs::Refusals::call_refusal, crate::specs::Refusals::read_refusal)
-)]
+#![tactic(auto, using(terms::proofs::RefusalLaws::stops, terms::proofs::RefusalLaws::goes_on), unfolding(crate::specs::Refusals::call_refusal, crate::specs::Refusals::read_refusal))]
 
 ghost use Rattle.std.specs.Prelude.{◌≡◌};
 ghost use Rattle.terms.specs.Refusal.{refusal_in};
@@ -57,7 +53,13 @@ pub fn call_refusal(last: u32, i: ProcessNumber, c: SlotNumber, t: u32) -> Resul
 }
 
 // A read is refused for its wait as well: 18.
-pub fn read_refusal(last: u32, i: ProcessNumber, c: SlotNumber, t: u32, d: u32) -> Result<(), Refusal>
+pub fn read_refusal(
+    last: u32,
+    i: ProcessNumber,
+    c: SlotNumber,
+    t: u32,
+    d: u32,
+) -> Result<(), Refusal>
     ensures { refusal_in result ≡ read_refusal last i c t d }
 {
     call_refusal(last, i, c, t)?;

@@ -1,20 +1,20 @@
 -- What an accepted step says, and that what says it is accepted: no caller looks into the table.
 -- Assumes nothing.
-use mathlib.Core.Path.{◌≡◌, sym, ◌∙◌, ap}
+use mathlib.Core.Path.{◌≡◌}
 use mathlib.Core.List.{List}
 use Prim.Native.Nat.{ℕ, ◌≤◌, ◌<◌}
 use native.Mathlib.Omega.{arith}
 use borrow.Author.Tests.{ltb-false, le-ltb, eq-eqb, not-false}
 use lib.ListN.{length}
 use lib.Dec.{ltb}
+use Rattle.std.specs.Prelude.{Ok, Err}
 use Rattle.terms.specs.Limits.{top_tick}
 use Rattle.terms.specs.Little.{AllBytes}
-use Rattle.terms.proofs.RefusalLaws.{if_refused, then_both, passed, refuse-false, not_outside, inside}
+use Rattle.terms.proofs.RefusalLaws.{if_refused, then_both, passed, refuse-false, not_outside, inside, accepted_says, refused_says}
 use Rattle.records.specs.Record.{byte}
-use Rattle.steps.specs.Step.{step_mark, step_limits, step_fields, step_refusal, step_read, no_step, step_write_refusal}
+use Rattle.steps.specs.Step.{step_mark, step_limits, step_fields, step_refusal, step_read, step_write_refusal}
 use Rattle.records.proofs.RecordLaws.{marked_said, byte_small}
 use Rattle.steps.specs.declared.Step.{Step}
-use Rattle.steps.specs.declared.StepRead.{StepRead}
 
 -- LIMITS
 
@@ -67,23 +67,28 @@ module _ (most : ℕ) (s : List ℕ) where
   said_step h =
       simp (le-ltb _ _ h.eight, eq-eqb _ _ h.mark0, eq-eqb _ _ h.mark1, said_step_limits most (step_fields s) h.limits)
 
-  -- what is read, by the refusal
-  pub step_refused : (k : ℕ) → step_refusal most s ≡ k → (k ≡ 0 → ⊥) → record { refusal = k; step = no_step } ≡ step_read most s
-  unfolding step_read
-  step_refused k e h = simp (e, if_refused k h)
+  -- past the mark the table is that of the limits
+  pub past_the_mark : 8 ≤ length s → byte 0 s ≡ 0x4F → byte 1 s ≡ 0x54 → step_refusal most s ≡ step_limits most (step_fields s)
+  unfolding step_refusal
+  past_the_mark eight m n = simp (le-ltb _ _ eight, eq-eqb _ _ m, eq-eqb _ _ n)
 
-  pub step_accepted : step_refusal most s ≡ 0 → record { refusal = 0; step = step_fields s } ≡ step_read most s
+  -- what is read, by the refusal
+  pub step_refused : (step_refusal most s ≡ 0 → ⊥) → step_read most s ≡ Err (step_refusal most s)
+  unfolding step_read
+  step_refused h = if_refused _ h _ _
+
+  pub step_accepted : step_refusal most s ≡ 0 → step_read most s ≡ Ok (step_fields s)
   unfolding step_read
   step_accepted e = simp e
 
-  -- of what a reader answered: its refusal is the table's, and where that is 0 its fields are the step's
-  module _ (r : StepRead) (e : r ≡ step_read most s) where
-    pub step_refusal_read : step_refusal most s ≡ r.refusal
-    unfolding step_read
-    step_refusal_read = sym (ap (λ (x : StepRead). x.refusal) e)
+  -- and what is said by a step that was read, or a refusal
+  pub step_was_read : {k : Step} → step_read most s ≡ Ok k → (step_refusal most s ≡ 0) × (k ≡ step_fields s)
+  unfolding step_read
+  step_was_read e = accepted_says (step_refusal most s) (step_fields s) e
 
-    pub step_fields_read : r.refusal ≡ 0 → r.step ≡ step_fields s
-    step_fields_read h = ap (λ (x : StepRead). x.step) (e ∙ sym (step_accepted (step_refusal_read ∙ h)))
+  pub step_was_refused : {x : ℕ} → step_read most s ≡ Err x → (step_refusal most s ≡ x) × (x ≡ 0 → ⊥)
+  unfolding step_read
+  step_was_refused e = refused_says (step_refusal most s) (step_fields s) e
 
 -- a tick of four bytes is a 32-bit number
 pub tick_small : (s : List ℕ) → AllBytes s → (step_fields s).tick < 4_294_967_296

@@ -1,14 +1,12 @@
 -- The step record of a trace (01, "The trace"), and what is refused of it, in 01's order. `most` is the largest process number: n in a run, 32
 -- in the reader and the writer.
-use Rattle.std.specs.Prelude.{not, List, [], ◌∷◌, ◌++◌, ℕ, length, ltb}
+use Rattle.std.specs.Prelude.{not, List, [], ◌∷◌, ◌++◌, ℕ, length, ltb, Result, Ok, Err}
 use Rattle.terms.specs.Limits.{top_tick}
 use Rattle.terms.specs.Numbers.{process_of}
 use Rattle.terms.specs.Refusal.{refuse, ◌then◌, outside, if_accepted}
 use Rattle.terms.specs.Little.{little_of, little_bytes}
-use Rattle.records.specs.declared.Written.{Written}
 use Rattle.records.specs.Record.{byte, marked, Wrote}
 use Rattle.steps.specs.declared.Step.{Step}
-use Rattle.steps.specs.declared.StepRead.{StepRead}
 
 abbrev pub step_mark : List ℕ
 step_mark = 0x4F ∷ 0x54 ∷ []
@@ -36,11 +34,8 @@ step_refusal most s =
     then refuse 10 (not (marked step_mark s))
     then step_limits most (step_fields s)
 
-abbrev pub no_step : Step
-no_step = record { process = process_of 0; event = 0; tick = 0 }
-
-unfoldable pub step_read : ℕ → List ℕ → StepRead
-step_read most s = record { refusal = step_refusal most s; step = if_accepted (step_refusal most s) (step_fields s) no_step }
+unfoldable pub step_read : ℕ → List ℕ → Result Step ℕ
+step_read most s = if_accepted (step_refusal most s) (Ok (step_fields s)) (Err (step_refusal most s))
 
 abbrev pub step_bytes : Step → List ℕ
 step_bytes k = step_mark ++ (k.process.0 ∷ k.event ∷ []) ++ little_bytes 4 k.tick
@@ -50,5 +45,5 @@ unfoldable pub step_write_refusal : ℕ → Step → ℕ → ℕ
 step_write_refusal most k room = step_limits most k then refuse 19 (ltb room 8)
 
 -- what the writer answers, and the buffer before and after
-abbrev pub WroteStep : ℕ → Step → List ℕ → Written → List ℕ → Type 0
+abbrev pub WroteStep : ℕ → Step → List ℕ → Result ℕ ℕ → List ℕ → Type 0
 WroteStep most k before r after = Wrote (step_write_refusal most k (length before)) (step_bytes k) before r after

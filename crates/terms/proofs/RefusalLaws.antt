@@ -145,8 +145,30 @@ pub ok_is_no_error : {A E : Type 0} {x : A} {e : E} → ◌≡◌ {A = Result A 
 ok_is_no_error h = cc
 
 -- the same of an answer with its number
+abbrev error_of : {A : Type 0} → Result A ℕ → ℕ
+error_of (Ok x) = 0
+error_of (Err k) = k
+
 pub numbers_settle : {A : Type 0} (x y : Result A Refusal) → numbered x ≡ numbered y → x ≡ y
 numbers_settle (Ok a) (Ok b) h = ap Ok (ap (λ r. result_unwrap_or r a) h)
 numbers_settle (Ok a) (Err e) h = absurd (ok_is_no_error h)
 numbers_settle (Err e) (Ok b) h = absurd (ok_is_no_error (sym h))
-numbers_settle (Err d) (Err e) h = ap Err (same_name d e (ap (λ r. elim r [ Ok x ↦ 0 | Err k ↦ k ]) h))
+numbers_settle (Err d) (Err e) h = ap Err (same_name d e (ap error_of h))
+
+-- what an answer by a table says of it
+pub accepted_says : (k : ℕ) {A : Type 0} (x : A) {y : A} → if_accepted k (Ok x) (Err k) ≡ Ok y → (k ≡ 0) × (y ≡ x)
+accepted_says zero x e = (refl, sym (ap (λ r. result_unwrap_or r x) e))
+accepted_says (suc k) x e = absurd (ok_is_no_error (sym e))
+
+pub refused_says : (k : ℕ) {A : Type 0} (x : A) {n : ℕ} → if_accepted k (Ok x) (Err k) ≡ Err n → (k ≡ n) × (n ≡ 0 → ⊥)
+refused_says zero x e = absurd (ok_is_no_error e)
+refused_says (suc k) x {n} e =
+    let same : suc k ≡ n = ap error_of e in
+    (same, λ z. absurd (omega (arith, same, z)))
+
+-- and what such an answer is
+pub answers_refused : (k : ℕ) {A : Type 0} (x : A) (e : Refusal) → number e ≡ k → numbered (Err e) ≡ if_accepted k (Ok x) (Err k)
+answers_refused k x e h = rw (← h) (sym (if_refused (number e) (some_number e) _ _))
+
+pub answers_accepted : (k : ℕ) {A : Type 0} (x : A) → 0 ≡ k → Ok x ≡ if_accepted k (Ok x) (Err k)
+answers_accepted k x h = sym (if_accepted_lem k (sym h) _ _)

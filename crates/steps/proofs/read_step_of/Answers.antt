@@ -1,41 +1,35 @@
 -- `read_step_of` meets its contract: at each `return` the tests that led there say which refusal is the first. Assumes nothing.
-use Rattle.std.proofs.Common.{◌≡◌, ◌∙◌}
+use Rattle.std.proofs.Common.{◌∙◌, sym}
+use Rattle.std.proofs.lemmas.Result.{err_from_is_err_and}
 use borrow.Author.Tests.{lt-ltb, le-ltb, eq-eqb, ne_eqb}
+use Rattle.terms.proofs.RefusalLaws.{answers_refused, answers_accepted}
+use Rattle.steps.proofs.StepLaws.{past_the_mark}
 use Rattle.steps.specs.Step.{step_refusal, step_read}
-use Rattle.steps.proofs.StepLaws.{step_refused, step_accepted}
 use Rattle.steps.proofs.read_step_of.Goals as goal
-use Rattle.steps.proofs.read_step_of.Goals.{After-step_limits-no}
+use Rattle.steps.proofs.read_step_of.Goals.{then-m-via-then-m, then-m-via-else-m+then-n}
 
--- past the mark the table is that of the limits
-limits : (c : After-step_limits-no) → step_refusal c.args.most c.args.s.now ≡ c.step_limits-no.result
-unfolding step_refusal
-limits c =
-    simp (
-      le-ltb _ _ c.if-s-lt8.false,
-      eq-eqb _ _ c.if-s.false,
-      eq-eqb _ _ c.if-s-2.false,
-      c.step_limits-no.ensures,
-      c.u32_of.ensures,
-      c.process_of.ensures,
-    )
-
-pub returns-then-s-lt8 : goal.returns-then-s-lt8
+pub returns-in_default : goal.returns-in_default
 unfolding step_read step_refusal
-returns-then-s-lt8 c = c.refused.ensures ∙ simp (lt-ltb _ _ c.if-s-lt8.true)
+returns-in_default c = simp (lt-ltb _ _ c.in_default.len_below)
 
-pub returns-then-s : goal.returns-then-s
+pub returns-then-m : goal.returns-then-m
 unfolding step_read step_refusal
-returns-then-s c = c.refused-then-s.ensures ∙ simp (le-ltb _ _ c.if-s-lt8.false, ne_eqb _ _ c.if-s.true)
+returns-then-m c =
+    elim c.then-m.branch [
+      | then-m-via-then-m w ↦ simp (le-ltb _ _ c.in-len8-up.len_at_least, ne_eqb _ _ w.if-m.true)
+      | then-m-via-else-m+then-n w ↦ simp (le-ltb _ _ c.in-len8-up.len_at_least, eq-eqb _ _ w.if-m.false, ne_eqb _ _ w.if-n.true)
+    ]
 
-pub returns-then-s-2 : goal.returns-then-s-2
-unfolding step_read step_refusal
-returns-then-s-2 c = c.refused-then-s-2.ensures ∙ simp (le-ltb _ _ c.if-s-lt8.false, eq-eqb _ _ c.if-s.false, ne_eqb _ _ c.if-s-2.true)
-
-pub returns-then-no-ne0 : goal.returns-then-no-ne0
-returns-then-no-ne0 c =
-    c.refused-then-no-ne0.ensures ∙ step_refused _ _ _ (limits (goal.at.returns-then-no-ne0 c).After-step_limits-no) c.if-no-ne0.true
+pub returns-in_err-step_limits : goal.returns-in_err-step_limits
+unfolding step_read
+returns-in_err-step_limits c =
+    let p = err_from_is_err_and c.from_residual.result c.from_residual.ensures.1 in
+    let refused = c.in_err-step_limits.ensures ∙ simp (c.from.ensures, c.from-2.ensures, c.u32_of.ensures) in
+    rw (p.1, p.2) (answers_refused _ _ _ (refused ∙ sym (past_the_mark _ _ c.in-len8-up.len_at_least c.if-m.false c.if-n.false)))
 
 pub returns : goal.returns
+unfolding step_read
 returns c =
-    let at_limits = (goal.at.returns c).After-step_limits-no in
-    simp (c.u32_of.ensures, c.process_of.ensures) (step_accepted _ _ (limits at_limits ∙ c.if-no-ne0.false))
+    let accepted = c.in_ok-step_limits.ensures ∙ simp (c.from.ensures, c.from-2.ensures, c.u32_of.ensures) in
+    rw (c.from.ensures, c.from-2.ensures, c.u32_of.ensures)
+    (answers_accepted _ _ (accepted ∙ sym (past_the_mark _ _ c.in-len8-up.len_at_least c.if-m.false c.if-n.false)))
