@@ -1,73 +1,49 @@
-// What a bank answers a read and a write.
+// What a bank answers a read and a write, or why it refuses.
 #![tactic(auto)]
 
 ghost use Rattle.std.specs.Prelude.{◌≡◌};
-ghost use Rattle.answers.specs.Answers.{read_number, read_value, write_number, is_done, is_late};
+ghost use Rattle.terms.specs.Refusal.{refusal_in};
+ghost use Rattle.answers.specs.Answers.{read_value, is_done, is_late};
 
-#[derive(Clone, Copy)]
-pub enum ReadAnswer {
-    Value(u32),
-    Refused(u32),
+use terms::Refusal;
+
+// How a write went that was accepted.
+#[derive(Clone, Copy, Debug, PartialEq, Eq)]
+pub enum Write {
+    Done = 1,
+    Late = 2,
 }
 
-#[derive(Clone, Copy)]
-pub enum WriteAnswer {
-    Done,
-    Late,
-    Refused(u32),
-}
+// The value read.
+pub type ReadAnswer = Result<u32, Refusal>;
 
-impl ReadAnswer {
-    // The number of the refusal, 0 for none.
-    pub fn number(self) -> u32
-        ensures { result ≡ read_number self }
-    {
-        match self {
-            ReadAnswer::Value(_) => 0,
-            ReadAnswer::Refused(k) => k,
-        }
-    }
+pub type WriteAnswer = Result<Write, Refusal>;
 
-    // The value read, 0 where the read was refused.
-    pub fn value(self) -> u32
-        ensures { result ≡ read_value self }
-    {
-        match self {
-            ReadAnswer::Value(v) => v,
-            ReadAnswer::Refused(_) => 0,
-        }
+// The number of the refusal, 0 for none.
+pub fn number<T: Drop>(answer: Result<T, Refusal>) -> u32
+    ensures { result ≡ refusal_in answer }
+{
+    match answer {
+        Ok(_) => 0,
+        Err(refusal) => u32::from(refusal),
     }
 }
 
-impl WriteAnswer {
-    // The number of the refusal, 0 for none.
-    pub fn number(self) -> u32
-        ensures { result ≡ write_number self }
-    {
-        match self {
-            WriteAnswer::Done => 0,
-            WriteAnswer::Late => 0,
-            WriteAnswer::Refused(k) => k,
-        }
-    }
+// The value read, 0 where the read was refused.
+pub fn value(answer: ReadAnswer) -> u32
+    ensures { result ≡ read_value answer }
+{
+    answer.unwrap_or(0)
+}
 
-    pub fn is_done(self) -> bool
-        ensures { result ≡ is_done self }
-    {
-        match self {
-            WriteAnswer::Done => true,
-            WriteAnswer::Late => false,
-            WriteAnswer::Refused(_) => false,
-        }
-    }
+pub fn is_done(answer: WriteAnswer) -> bool
+    ensures { result ≡ is_done answer }
+{
+    answer == Ok(Write::Done)
+}
 
-    pub fn is_late(self) -> bool
-        ensures { result ≡ is_late self }
-    {
-        match self {
-            WriteAnswer::Done => false,
-            WriteAnswer::Late => true,
-            WriteAnswer::Refused(_) => false,
-        }
-    }
+pub fn is_late(answer: WriteAnswer) -> bool
+    ensures { result ≡ is_late answer }
+{
+    answer == Ok(Write::Late)
 }

@@ -14,7 +14,8 @@ use Rattle.terms.specs.declared.ProcessNumber.{ProcessNumber}
 use Rattle.terms.specs.declared.SlotNumber.{SlotNumber}
 use Rattle.terms.specs.Limits.{unlimited}
 use Rattle.terms.specs.Ranges.{IsPair}
-use Rattle.answers.specs.declared.WriteAnswer.{WriteAnswer}
+use Rattle.std.specs.Prelude.{Ok}
+use Rattle.answers.specs.declared.Write.{Write}
 use Rattle.refusals.specs.Refusals.{call_refusal, read_refusal}
 use Rattle.refusals.proofs.Accepted.{accepted_good, read_accepted_good}
 use Rattle.registers.specs.Deadlines.{pair_of, due}
@@ -62,14 +63,14 @@ module _ {i : ProcessNumber} {c : SlotNumber} (p : IsPair i c) where
 
 -- a write of an unbound pair is done
 pub unbound_write_is_done : (b : Bank) (i : ProcessNumber) (c : SlotNumber) (t v : ℕ) → call_refusal b.last i c t ≡ 0 → deadline_at b i c ≡ unlimited
-    → (write_of b i c t v).answer ≡ WriteAnswer.Done
+    → (write_of b i c t v).answer ≡ Ok Write.Done
 unbound_write_is_done b i c t v h f =
     accepted_write_answers_by_the_deadline b i c t v h ∙ rw (f, le-ltb unlimited t (omega (arith, (accepted_good b.last i c t h).1.0.top)))
 
 -- After an accepted read at tick t with the wait d and any calls of other pairs, the pair's write is done up to t + d and late after.
 pub first_write_after_a_read_is_bound : (b : Bank) (i : ProcessNumber) (c : SlotNumber) (t d : ℕ) (ks : List Call) (t' v : ℕ)
     → Sized b → read_refusal b.last i c t d ≡ 0 → Each (Elsewhere i c) ks → call_refusal (after_all (read_of b i c t d).bank ks).last i c t' ≡ 0
-    → (write_of (after_all (read_of b i c t d).bank ks) i c t' v).answer ≡ done_or_late (ltb (due t d) t')
+    → (write_of (after_all (read_of b i c t d).bank ks) i c t' v).answer ≡ Ok (done_or_late (ltb (due t d) t'))
 first_write_after_a_read_is_bound b i c t d ks t' v s h o h' =
     let p : IsPair i c = (accepted_good b.last i c t (read_accepted_good b.last i c t d h).0).0 in
     let bound : deadline_at (after_all (read_of b i c t d).bank ks) i c ≡ due t d
@@ -79,7 +80,7 @@ first_write_after_a_read_is_bound b i c t d ks t' v s h o h' =
 -- After an accepted write, late or not, every write of the pair is done until it reads again, whatever other calls come in between.
 pub later_writes_are_done : (b : Bank) (i : ProcessNumber) (c : SlotNumber) (t v : ℕ) (ks : List Call) (t' v' : ℕ)
     → Sized b → call_refusal b.last i c t ≡ 0 → Each (NotRead i c) ks → call_refusal (after_all (write_of b i c t v).bank ks).last i c t' ≡ 0
-    → (write_of (after_all (write_of b i c t v).bank ks) i c t' v').answer ≡ WriteAnswer.Done
+    → (write_of (after_all (write_of b i c t v).bank ks) i c t' v').answer ≡ Ok Write.Done
 later_writes_are_done b i c t v ks t' v' s h o h' =
     let p : IsPair i c = (accepted_good b.last i c t h).0 in
     let freed : deadline_at (write_of b i c t v).bank i c ≡ unlimited = accepted_call_leaves_its_deadline b (Call.writing i c t v) s h in

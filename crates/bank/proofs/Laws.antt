@@ -13,8 +13,7 @@ use Rattle.terms.specs.declared.ProcessNumber.{ProcessNumber}
 use Rattle.terms.specs.declared.SlotNumber.{SlotNumber}
 use Rattle.terms.specs.Limits.{unlimited}
 use Rattle.terms.specs.Ranges.{IsPair}
-use Rattle.answers.specs.declared.ReadAnswer.{ReadAnswer}
-use Rattle.answers.specs.declared.WriteAnswer.{WriteAnswer}
+use Rattle.std.specs.Prelude.{Ok, Err}
 use Rattle.refusals.specs.Refusals.{call_refusal, read_refusal}
 use Rattle.refusals.proofs.Accepted.{accepted_good, read_accepted_good}
 use Rattle.registers.specs.Sizes.{register_count}
@@ -37,20 +36,20 @@ accepted_call_has_a_pair last (Call.writing i c t v) h = (accepted_good last i c
 
 pub refused_call_changes_nothing : (b : Bank) (k : Call) → (refusal_at b.last k ≡ 0 → ⊥) → after b k ≡ b
 refused_call_changes_nothing b (Call.reading i c t d) h =
-    λ x. (sym (read_refused b.values b.deadlines b.last i c t d (read_refusal b.last i c t d) refl h) x).bank
-refused_call_changes_nothing b (Call.writing i c t v) h = λ x. (sym (write_refused b i c t v (call_refusal b.last i c t) refl h) x).bank
+    λ x. (sym (read_refused b.values b.deadlines b.last i c t d h) x).bank
+refused_call_changes_nothing b (Call.writing i c t v) h = λ x. (sym (write_refused b i c t v h) x).bank
 
 -- the result of an accepted read, and of an accepted write
 module _ (b : Bank) (i : ProcessNumber) (c : SlotNumber) (t : ℕ) where
   read_result : (d : ℕ) → read_refusal b.last i c t d ≡ 0
-      → read_of b i c t d ≡ record { bank = after_read b i c t d; answer = ReadAnswer.Value (value_at b c) }
+      → read_of b i c t d ≡ record { bank = after_read b i c t d; answer = Ok (value_at b c) }
   unfolding after_read
-  read_result d h = sym (read_given b.values b.deadlines b.last i c t d (read_refusal b.last i c t d) refl h _ _ _ refl)
+  read_result d h = sym (read_given b.values b.deadlines b.last i c t d (sym h) _ _ _ refl)
 
   write_result : (v : ℕ) → call_refusal b.last i c t ≡ 0
-      → write_of b i c t v ≡ record { bank = after_write b i c t v; answer = done_or_late (late_at b i c t) }
+      → write_of b i c t v ≡ record { bank = after_write b i c t v; answer = Ok (done_or_late (late_at b i c t)) }
   unfolding after_write
-  write_result v h = sym (write_given b i c t v (call_refusal b.last i c t) refl h _ _ _ _ refl)
+  write_result v h = sym (write_given b i c t v (sym h) _ _ _ _ refl)
 
 pub accepted_call_result : (b : Bank) (k : Call) → refusal_at b.last k ≡ 0
     → after b k ≡ bank_of (values_after b k) (set b.deadlines (pair_of (caller k) (register k)) (leaves k)) (tick_of k)
@@ -111,16 +110,16 @@ module _ (b : Bank) (i : ProcessNumber) (c : SlotNumber) (t : ℕ) where
   pub read_keeps_values : (d : ℕ) → (read_of b i c t d).bank.values ≡ b.values
   read_keeps_values d = after_either b (Call.reading i c t d) (λ (b' : Bank). b'.values ≡ b.values) refl (λ h. refl)
 
-  pub accepted_read_gives_the_value : (d : ℕ) → read_refusal b.last i c t d ≡ 0 → (read_of b i c t d).answer ≡ ReadAnswer.Value (value_at b c)
+  pub accepted_read_gives_the_value : (d : ℕ) → read_refusal b.last i c t d ≡ 0 → (read_of b i c t d).answer ≡ Ok (value_at b c)
   accepted_read_gives_the_value d h = λ x. (read_result b i c t d h x).answer
 
   pub refused_read_gives_its_number : (d : ℕ) → (read_refusal b.last i c t d ≡ 0 → ⊥)
-      → (read_of b i c t d).answer ≡ ReadAnswer.Refused (read_refusal b.last i c t d)
-  refused_read_gives_its_number d h = λ x. (sym (read_refused b.values b.deadlines b.last i c t d (read_refusal b.last i c t d) refl h) x).answer
+      → (read_of b i c t d).answer ≡ Err (read_refusal b.last i c t d)
+  refused_read_gives_its_number d h = λ x. (sym (read_refused b.values b.deadlines b.last i c t d h) x).answer
 
   pub refused_write_gives_its_number : (v : ℕ) → (call_refusal b.last i c t ≡ 0 → ⊥)
-      → (write_of b i c t v).answer ≡ WriteAnswer.Refused (call_refusal b.last i c t)
-  refused_write_gives_its_number v h = λ x. (sym (write_refused b i c t v (call_refusal b.last i c t) refl h) x).answer
+      → (write_of b i c t v).answer ≡ Err (call_refusal b.last i c t)
+  refused_write_gives_its_number v h = λ x. (sym (write_refused b i c t v h) x).answer
 
   pub latest_read_counts : (d t' d' : ℕ) → Sized b → read_refusal (read_of b i c t d).bank.last i c t' d' ≡ 0
       → deadline_at (read_of (read_of b i c t d).bank i c t' d').bank i c ≡ due t' d'
@@ -128,7 +127,7 @@ module _ (b : Bank) (i : ProcessNumber) (c : SlotNumber) (t : ℕ) where
       accepted_call_leaves_its_deadline (read_of b i c t d).bank (Call.reading i c t' d') (call_keeps_sizes b (Call.reading i c t d) s) h
 
   module _ (v : ℕ) (h : call_refusal b.last i c t ≡ 0) where
-    pub accepted_write_answers_by_the_deadline : (write_of b i c t v).answer ≡ done_or_late (ltb (deadline_at b i c) t)
+    pub accepted_write_answers_by_the_deadline : (write_of b i c t v).answer ≡ Ok (done_or_late (ltb (deadline_at b i c) t))
     accepted_write_answers_by_the_deadline = λ x. (write_result b i c t v h x).answer
 
     pub write_in_time_stores : Sized b → t ≤ deadline_at b i c → value_at (write_of b i c t v).bank c ≡ v

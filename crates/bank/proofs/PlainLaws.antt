@@ -10,7 +10,8 @@ use borrow.Author.Tests.{le-ltb}
 use Rattle.terms.specs.declared.ProcessNumber.{ProcessNumber}
 use Rattle.terms.specs.declared.SlotNumber.{SlotNumber}
 use Rattle.terms.specs.Limits.{unlimited}
-use Rattle.answers.specs.declared.WriteAnswer.{WriteAnswer}
+use Rattle.std.specs.Prelude.{Ok}
+use Rattle.answers.specs.declared.Write.{Write}
 use Rattle.refusals.specs.Refusals.{call_refusal}
 use Rattle.refusals.proofs.Accepted.{accepted_good}
 use Rattle.registers.specs.Sizes.{register_count, pair_count}
@@ -47,7 +48,7 @@ limitless_run_binds_nobody b (k ∷ ks) s h u =
 
 module _ (b : Bank) (s : Sized b) (u : Unbound b) where
   pub limitless_write_is_never_late : (ks : List Call) → Each Limitless ks → (i : ProcessNumber) (c : SlotNumber) (t v : ℕ)
-      → call_refusal (after_all b ks).last i c t ≡ 0 → (write_of (after_all b ks) i c t v).answer ≡ WriteAnswer.Done
+      → call_refusal (after_all b ks).last i c t ≡ 0 → (write_of (after_all b ks) i c t v).answer ≡ Ok Write.Done
   limitless_write_is_never_late ks h i c t v a =
       unbound_write_is_done (after_all b ks) i c t v a
       (limitless_run_binds_nobody b ks s h u i c (accepted_good (after_all b ks).last i c t a).0)

@@ -5,12 +5,13 @@
 pub mod calls;
 
 ghost use Rattle.std.specs.Prelude.{◌≡◌};
+ghost use Rattle.terms.specs.Refusal.{numbered};
 ghost use Rattle.bank.specs.Registers.{fresh_bank};
 ghost use Rattle.bank.specs.Calls.{read_of, write_of};
 
-use answers::{ReadAnswer, WriteAnswer};
+use answers::Write;
 use registers::{PAIRS, REGISTERS};
-use terms::{ProcessNumber, SlotNumber, Wait};
+use terms::{ProcessNumber, Refusal, SlotNumber, Wait};
 
 // The registers' values, the deadline of each pair at `(i - 1) * 8 + c`, and the tick of the last accepted call.
 #[derive(Clone, Copy)]
@@ -20,16 +21,11 @@ pub struct Bank {
     pub last: u32,
 }
 
+// The bank after a call, and what it answered.
 #[derive(Clone, Copy)]
-pub struct ReadResult {
+pub struct Called<T> {
     pub bank: Bank,
-    pub answer: ReadAnswer,
-}
-
-#[derive(Clone, Copy)]
-pub struct WriteResult {
-    pub bank: Bank,
-    pub answer: WriteAnswer,
+    pub answer: Result<T, Refusal>,
 }
 
 impl Bank {
@@ -45,38 +41,20 @@ impl Bank {
     }
 
     // The value of register c; the deadline of i and c becomes t + d, or unlimited.
-    pub fn read(self, i: ProcessNumber, c: SlotNumber, t: u32, d: u32) -> ReadResult
-        ensures { result ≡ read_of self i c t d }
+    pub fn read(mut self, i: ProcessNumber, c: SlotNumber, t: u32, d: u32) -> Called<u32>
+        ensures { record { bank = result.bank; answer = numbered result.answer } ≡ read_of self i c t d }
     {
-        let values = self.values;
-        let mut deadlines = self.deadlines;
-        let mut last = self.last;
-        let answer = calls::read_in(&values, &mut deadlines, &mut last, i, c, t, d);
-        ReadResult {
-            bank: Bank {
-                values: values,
-                deadlines: deadlines,
-                last: last,
-            },
-            answer: answer,
-        }
+        let Bank { values, deadlines, last } = &mut self;
+        let answer = calls::read_in(values, deadlines, last, i, c, t, d);
+        Called { bank: self, answer }
     }
 
     // Up to the deadline of i and c: v is stored. Late: the value stays. Either way the deadline becomes unlimited.
-    pub fn write(self, i: ProcessNumber, c: SlotNumber, t: u32, v: u32) -> WriteResult
-        ensures { result ≡ write_of self i c t v }
+    pub fn write(mut self, i: ProcessNumber, c: SlotNumber, t: u32, v: u32) -> Called<Write>
+        ensures { record { bank = result.bank; answer = numbered result.answer } ≡ write_of self i c t v }
     {
-        let mut values = self.values;
-        let mut deadlines = self.deadlines;
-        let mut last = self.last;
-        let answer = calls::write_in(&mut values, &mut deadlines, &mut last, i, c, t, v);
-        WriteResult {
-            bank: Bank {
-                values: values,
-                deadlines: deadlines,
-                last: last,
-            },
-            answer: answer,
-        }
+        let Bank { values, deadlines, last } = &mut self;
+        let answer = calls::write_in(values, deadlines, last, i, c, t, v);
+        Called { bank: self, answer }
     }
 }

