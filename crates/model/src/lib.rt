@@ -3,7 +3,9 @@
 
 ghost use Rattle.std.specs.Prelude.{◌≡◌, ◌<◌};
 ghost use Rattle.terms.specs.Limits.{most_processes};
-ghost use Rattle.model.specs.Routine.{routine_of};
+ghost use Rattle.model.specs.Bounds.{Uncounted};
+ghost use Rattle.model.specs.Report.{shown_of};
+ghost use Rattle.model.specs.Routine.{routine_of, counted, crash};
 ghost use Rattle.model.specs.Run.{start_rows};
 
 use bank::Bank;
@@ -23,8 +25,8 @@ pub const ROWS: usize = Trace::PROCESSES as usize;
 // The flag of value v stands at v; entry 0 is not used.
 pub const FLAGS: usize = Trace::SLOTS as usize + 1;
 
-// Where a process stands. A crash is no place: it is a mark beside it, in the row.
-#[derive(Clone, Copy)]
+// Where a process stands, in the order of the numbers that the report shows. A crash is no place: it is a mark beside it, in the row.
+#[derive(Clone, Copy, PartialEq, Eq)]
 pub enum Place {
     Rest,
     Look,
@@ -107,6 +109,14 @@ pub struct Outcome {
     pub at: u32,
 }
 
+impl Place {
+    pub fn number(self) -> u32
+        ensures { result ≡ shown_of self }
+    {
+        self as u32
+    }
+}
+
 impl Row {
     // A process that has not moved, at its place with slot c, that writes `own`.
     fn unmoved(place: Place, c: SlotNumber, own: u32) -> Self
@@ -139,6 +149,23 @@ impl Row {
             Kind::Fast => Row::unmoved(Place::Flag, SlotNumber(0), start),
         }
     }
+
+    // A move, and a late write where the write was late, are counted.
+    pub fn count(&mut self, late: bool)
+        requires { Uncounted self.old }
+        ensures { self.new ≡ counted late self.old.local self.old }
+    {
+        self.moves += 1;
+        if late {
+            self.lates += 1;
+        }
+    }
+
+    pub fn crash(&mut self)
+        ensures { self.new ≡ crash self.old }
+    {
+        self.crashed = true;
+    }
 }
 
 impl State {
@@ -146,15 +173,10 @@ impl State {
     fn start_rows(shape: Shape, starts: [u8; ROWS]) -> [Row; ROWS]
         ensures { result ≡ start_rows shape 0 starts }
     {
-        let kind = shape.kind;
         let mut rows = [Row::unmoved(Place::Rest, SlotNumber(0), 0); ROWS];
-        let mut j: usize = 0;
-        while j < ROWS {
-            if shape.count <= j as u32 {
-                return rows;
-            }
-            rows[j] = Row::begin(kind, j as u32, starts[j]);
-            j = j + 1;
+        let begun = ROWS.min(shape.count as usize);
+        for j in 0..begun {
+            rows[j] = Row::begin(shape.kind, j as u32, starts[j]);
         }
         rows
     }
@@ -163,11 +185,9 @@ impl State {
     pub fn fresh(shape: Shape, starts: [u8; ROWS]) -> Self
         ensures { result ≡ Rattle.model.specs.Run.fresh shape starts }
     {
-        let rows = State::start_rows(shape, starts);
-        let bank = Bank::fresh();
         State {
-            rows,
-            bank,
+            rows: State::start_rows(shape, starts),
+            bank: Bank::fresh(),
             shared: Shared {
                 flags: [false; FLAGS],
             },

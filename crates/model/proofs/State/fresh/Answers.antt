@@ -9,4 +9,4 @@ pub returns : goal.returns
 unfolding fresh fresh_bank
 returns c =
     let long : length c.args.starts ≡ most_processes = search rules in
-    rw (c.start_rows-rows.ensures, c.fresh-bank.ensures, long)
+    rw (c.start_rows.ensures, c.fresh.ensures, long)
