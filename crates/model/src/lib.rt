@@ -169,29 +169,23 @@ impl Row {
 }
 
 impl State {
-    // The rows at the start: where the kind begins, and blank past the last process.
-    fn start_rows(shape: Shape, starts: [u8; ROWS]) -> [Row; ROWS]
-        ensures { result ≡ start_rows shape 0 starts }
-    {
-        let mut rows = [Row::unmoved(Place::Rest, SlotNumber(0), 0); ROWS];
-        let begun = ROWS.min(shape.count as usize);
-        for j in 0..begun {
-            rows[j] = Row::begin(shape.kind, j as u32, starts[j]);
-        }
-        rows
-    }
-
-    // The state at the start of a run.
+    // The state at the start of a run: the rows stand where the kind begins, and are blank past the last process.
     pub fn fresh(shape: Shape, starts: [u8; ROWS]) -> Self
         ensures { result ≡ Rattle.model.specs.Run.fresh shape starts }
     {
-        State {
-            rows: State::start_rows(shape, starts),
+        let blank = Row::unmoved(Place::Rest, SlotNumber(0), 0);
+        let mut state = State {
+            rows: [blank; ROWS],
             bank: Bank::fresh(),
             shared: Shared {
                 flags: [false; FLAGS],
             },
             newest: 0,
+        };
+        let begun = ROWS.min(shape.count as usize);
+        for j in 0..begun {
+            state.rows[j] = Row::begin(shape.kind, j as u32, starts[j]);
         }
+        state
     }
 }

@@ -1,12 +1,31 @@
--- `model::State::fresh` meets its contract: its rows and its bank are the fresh ones. Assumes nothing.
-use Rattle.std.proofs.Common.{rules, ◌≡◌, length}
+-- `model::State::fresh` meets its contract: the first j rows begin, the others are blank; the rest is as it was made. Assumes nothing.
+use Rattle.std.proofs.Common.{◌≡◌, refl, sym, ap, ◌∙◌, rules, arith, length}
 use Rattle.terms.specs.Limits.{most_processes}
-use Rattle.bank.specs.Registers.{fresh_bank}
+use Rattle.bank.specs.Registers.{fresh_bank, fresh_bank_of}
 use Rattle.model.specs.Run.{fresh}
+use Rattle.model.proofs.StartLaws.{filled_none, filled_more, filled_done}
 use Rattle.model.proofs.State.fresh.Goals as goal
+
+pub loop-j-init : goal.loop-j-init
+loop-j-init c =
+    record { rows = filled_none c.args.shape c.args.starts _ c.unmoved-blank.ensures; bank = c.fresh.ensures; shared = refl; newest = refl }
+
+pub loop-j-preserved : goal.loop-j-preserved
+loop-j-preserved c =
+    let l = c.loop-j in
+    let i = l.invariant in
+    record {
+      rows = filled_more c.args.shape c.args.starts l.j l.state.rows i.rows (omega arith) (omega arith) c.begin.ensures;
+      bank = i.bank;
+      shared = i.shared;
+      newest = i.newest;
+    }
 
 pub returns : goal.returns
 unfolding fresh fresh_bank
 returns c =
+    let l = c.loop-j in
+    let i = l.invariant in
     let long : length c.args.starts ≡ most_processes = search rules in
-    rw (c.start_rows.ensures, c.fresh.ensures, long)
+    let rows = filled_done c.args.shape c.args.starts l.j l.state.rows i.rows long (λ i h k. omega arith) in
+    λ t. record { rows = rows t; bank = (i.bank ∙ ap fresh_bank_of (sym long)) t; shared = i.shared t; newest = i.newest t }
