@@ -8,10 +8,12 @@ ghost use Rattle.model.specs.Report.{ran_of};
 ghost use Rattle.engine.specs.Stepped.{Begins, Walked, ran_from};
 
 use crate::{moves, report};
-use model::{LINE, Outcome, Shape, State};
+use bank::Bank;
+use model::{FLAGS, LINE, Outcome, ROWS, Row, Shape, Shared, State};
+use registers::{PAIRS, REGISTERS};
 use routine::judges;
 use setups::{PLACES, Setup};
-use terms::Trace;
+use terms::{Trace, Wait};
 
 // The records of `rest`, one after the other: `state` is one that a run begins with, and then the state that the records left.
 fn take_records(shape: Shape, rest: &[u8], state: &mut State) -> Outcome
@@ -46,6 +48,7 @@ fn take_records(shape: Shape, rest: &[u8], state: &mut State) -> Outcome
     }
 }
 
+#[tactic(auto, unfolding(model::specs::Run::blank_state, bank::specs::Registers::fresh_bank))]
 // A run of the records of `rest`, from its fresh state to its report.
 fn run_steps(shape: Shape, starts: [u8; PLACES], rest: &[u8], report: &mut [u32]) -> Outcome
     requires sound { Sound shape }
@@ -54,7 +57,19 @@ fn run_steps(shape: Shape, starts: [u8; PLACES], rest: &[u8], report: &mut [u32]
     requires room { line_width * shape.count ≤ length report.old }
     ensures { record { outcome = result; report = report.new } ≡ ran_from shape starts rest.now report.old }
 {
-    let mut state = State::fresh(shape, starts);
+    let mut state = State {
+        rows: [Row::blank(); ROWS],
+        bank: Bank {
+            values: [0; REGISTERS],
+            deadlines: [Wait::UNLIMITED; PAIRS],
+            last: 0,
+        },
+        shared: Shared {
+            flags: [false; FLAGS],
+        },
+        newest: 0,
+    };
+    state.begin(shape, starts);
     let outcome = take_records(shape, rest, &mut state);
     if outcome.number != 0 {
         return outcome;

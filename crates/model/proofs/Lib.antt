@@ -26,4 +26,3 @@ pub mod Witnesses
 pub mod StartLaws
 pub mod ReportLaws
 pub mod Examples
-pub mod Settled

@@ -6,7 +6,7 @@ ghost use Rattle.terms.specs.Limits.{most_processes};
 ghost use Rattle.model.specs.Bounds.{Uncounted};
 ghost use Rattle.model.specs.Report.{shown_of};
 ghost use Rattle.model.specs.Routine.{routine_of, counted, crash};
-ghost use Rattle.model.specs.Run.{start_rows};
+ghost use Rattle.model.specs.Run.{blank, blank_state, fresh};
 
 use bank::Bank;
 use kinds::Kind;
@@ -137,17 +137,25 @@ impl Row {
         }
     }
 
+    // What stands past the last process.
+    pub fn blank() -> Self
+        ensures { result ≡ blank }
+    {
+        Row::unmoved(Place::Rest, SlotNumber(0), 0)
+    }
+
     // The row at index j, of a process with start byte x.
     fn begin(kind: Kind, j: u32, x: u8) -> Self
         requires { j < most_processes }
         ensures { result ≡ Rattle.model.specs.Routine.begin (routine_of kind) j x }
     {
         let start = x as u32;
-        match kind {
-            Kind::Lock => Row::unmoved(Place::Rest, SlotNumber(start), j + 1),
-            Kind::Plain => Row::unmoved(Place::Look, SlotNumber(0), start),
-            Kind::Fast => Row::unmoved(Place::Flag, SlotNumber(0), start),
-        }
+        let (place, slot, own) = match kind {
+            Kind::Lock => (Place::Rest, start, j + 1),
+            Kind::Plain => (Place::Look, 0, start),
+            Kind::Fast => (Place::Flag, 0, start),
+        };
+        Row::unmoved(place, SlotNumber(slot), own)
     }
 
     // A move, and a late write where the write was late, are counted.
@@ -169,23 +177,14 @@ impl Row {
 }
 
 impl State {
-    // The state at the start of a run: the rows stand where the kind begins, and are blank past the last process.
-    pub fn fresh(shape: Shape, starts: [u8; ROWS]) -> Self
-        ensures { result ≡ Rattle.model.specs.Run.fresh shape starts }
+    // Every process begins: the state at the start of a run.
+    pub fn begin(&mut self, shape: Shape, starts: [u8; ROWS])
+        requires { self.old ≡ blank_state }
+        ensures { self.new ≡ fresh shape starts }
     {
-        let blank = Row::unmoved(Place::Rest, SlotNumber(0), 0);
-        let mut state = State {
-            rows: [blank; ROWS],
-            bank: Bank::fresh(),
-            shared: Shared {
-                flags: [false; FLAGS],
-            },
-            newest: 0,
-        };
         let begun = ROWS.min(shape.count as usize);
         for j in 0..begun {
-            state.rows[j] = Row::begin(shape.kind, j as u32, starts[j]);
+            self.rows[j] = Row::begin(shape.kind, j as u32, starts[j]);
         }
-        state
     }
 }
