@@ -10,10 +10,9 @@ ghost use Rattle.engine.specs.Stepped.{Begins, Walked, ran_from};
 use crate::{moves, report};
 use bank::Bank;
 use model::{FLAGS, LINE, Outcome, ROWS, Row, Shape, Shared, State};
-use registers::{PAIRS, REGISTERS};
 use routine::judges;
 use setups::{PLACES, Setup};
-use terms::{Trace, Wait};
+use terms::Trace;
 
 // The records of `rest`, one after the other: `state` is one that a run begins with, and then the state that the records left.
 fn take_records(shape: Shape, rest: &[u8], state: &mut State) -> Outcome
@@ -48,8 +47,8 @@ fn take_records(shape: Shape, rest: &[u8], state: &mut State) -> Outcome
     }
 }
 
-#[tactic(auto, unfolding(model::specs::Run::blank_state, bank::specs::Registers::fresh_bank))]
 // A run of the records of `rest`, from its fresh state to its report.
+#[tactic(auto, unfolding(model::specs::Run::blank_state))]
 fn run_steps(shape: Shape, starts: [u8; PLACES], rest: &[u8], report: &mut [u32]) -> Outcome
     requires sound { Sound shape }
     requires starts { Starts shape starts }
@@ -58,12 +57,8 @@ fn run_steps(shape: Shape, starts: [u8; PLACES], rest: &[u8], report: &mut [u32]
     ensures { record { outcome = result; report = report.new } ≡ ran_from shape starts rest.now report.old }
 {
     let mut state = State {
-        rows: [Row::blank(); ROWS],
-        bank: Bank {
-            values: [0; REGISTERS],
-            deadlines: [Wait::UNLIMITED; PAIRS],
-            last: 0,
-        },
+        rows: [Row::BLANK; ROWS],
+        bank: Bank::fresh(),
         shared: Shared {
             flags: [false; FLAGS],
         },

@@ -118,44 +118,43 @@ impl Place {
 }
 
 impl Row {
-    // A process that has not moved, at its place with slot c, that writes `own`.
-    fn unmoved(place: Place, c: SlotNumber, own: u32) -> Self
-        ensures { result ≡ Rattle.model.specs.Routine.unmoved place c own }
-    {
-        Row {
-            local: Local {
-                place,
-                slot: c,
-                decided: 0,
-                wake: 0,
-                scan: 0,
-            },
-            own,
-            moves: 0,
-            lates: 0,
-            crashed: false,
-        }
-    }
-
     // What stands past the last process.
-    pub fn blank() -> Self
-        ensures { result ≡ blank }
-    {
-        Row::unmoved(Place::Rest, SlotNumber(0), 0)
-    }
+    pub const BLANK: Row = Row {
+        local: Local {
+            place: Place::Rest,
+            slot: SlotNumber(0),
+            decided: 0,
+            wake: 0,
+            scan: 0,
+        },
+        own: 0,
+        moves: 0,
+        lates: 0,
+        crashed: false,
+    };
 
-    // The row at index j, of a process with start byte x.
-    fn begin(kind: Kind, j: u32, x: u8) -> Self
-        requires { j < most_processes }
-        ensures { result ≡ Rattle.model.specs.Routine.begin (routine_of kind) j x }
+    // The row at index j of a process with start byte x, in a blank one.
+    fn begin(&mut self, kind: Kind, j: u32, x: u8)
+        requires j_lt_most_processes { j < most_processes }
+        requires blank { self.old ≡ blank }
+        ensures { self.new ≡ Rattle.model.specs.Routine.begin (routine_of kind) j x }
     {
         let start = x as u32;
-        let (place, slot, own) = match kind {
-            Kind::Lock => (Place::Rest, start, j + 1),
-            Kind::Plain => (Place::Look, 0, start),
-            Kind::Fast => (Place::Flag, 0, start),
-        };
-        Row::unmoved(place, SlotNumber(slot), own)
+        match kind {
+            Kind::Lock => {
+                self.local.place = Place::Rest;
+                self.local.slot = SlotNumber(start);
+                self.own = j + 1;
+            }
+            Kind::Plain => {
+                self.local.place = Place::Look;
+                self.own = start;
+            }
+            Kind::Fast => {
+                self.local.place = Place::Flag;
+                self.own = start;
+            }
+        }
     }
 
     // A move, and a late write where the write was late, are counted.
@@ -184,7 +183,7 @@ impl State {
     {
         let begun = ROWS.min(shape.count as usize);
         for j in 0..begun {
-            self.rows[j] = Row::begin(shape.kind, j as u32, starts[j]);
+            self.rows[j].begin(shape.kind, j as u32, starts[j]);
         }
     }
 }
