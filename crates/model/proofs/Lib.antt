@@ -26,3 +26,4 @@ pub mod Witnesses
 pub mod StartLaws
 pub mod ReportLaws
 pub mod Examples
+pub mod Settled

@@ -110,6 +110,7 @@ pub struct Outcome {
 }
 
 impl Place {
+    // What the report shows of it.
     pub fn number(self) -> u32
         ensures { result ≡ shown_of self }
     {
@@ -133,7 +134,7 @@ impl Row {
         crashed: false,
     };
 
-    // The row at index j of a process with start byte x, in a blank one.
+    // A blank row becomes that of the process at index j, with start byte x.
     fn begin(&mut self, kind: Kind, j: u32, x: u8)
         requires j_lt_most_processes { j < most_processes }
         requires blank { self.old ≡ blank }
@@ -168,6 +169,7 @@ impl Row {
         }
     }
 
+    // A crash leaves its mark, and the rest as it stands.
     pub fn crash(&mut self)
         ensures { self.new ≡ crash self.old }
     {
@@ -176,7 +178,7 @@ impl Row {
 }
 
 impl State {
-    // Every process begins: the state at the start of a run.
+    // Every process begins, in a state in which none has.
     pub fn begin(&mut self, shape: Shape, starts: [u8; ROWS])
         requires { self.old ≡ blank_state }
         ensures { self.new ≡ fresh shape starts }
@@ -185,5 +187,22 @@ impl State {
         for j in 0..begun {
             self.rows[j].begin(shape.kind, j as u32, starts[j]);
         }
+    }
+
+    // The state at the start of a run.
+    #[tactic(auto, unfolding(crate::specs::Run::blank_state))]
+    pub fn fresh(shape: Shape, starts: [u8; ROWS]) -> Self
+        ensures { result ≡ fresh shape starts }
+    {
+        let mut state = State {
+            rows: [Row::BLANK; ROWS],
+            bank: Bank::fresh(),
+            shared: Shared {
+                flags: [false; FLAGS],
+            },
+            newest: 0,
+        };
+        state.begin(shape, starts);
+        state
     }
 }
