@@ -1,4 +1,3 @@
-pub mod StepLaws
 pub mod WalkLaws
 pub mod EntryLaws
 pub mod Settled

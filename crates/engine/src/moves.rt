@@ -1,128 +1,114 @@
 // A step in place: by the place of its process one operation of memory, and where the process goes with the answer.
 ghost use Rattle.std.specs.Prelude.{◌≤◌, ◌≡◌};
 ghost use Rattle.terms.specs.Limits.{most_slots, top_tick};
-ghost use Rattle.bank.specs.Registers.{bank_of};
 ghost use Rattle.model.specs.Bounds.{Sound, Room};
 ghost use Rattle.model.specs.Memory.{flag_at};
-ghost use Rattle.rows.specs.Rows.{row_in, IsRow, Whole};
-ghost use Rattle.engine.specs.Stepped.{Numbered, Due, shared_of, Moved, Stepped};
+ghost use Rattle.model.specs.Run.{row_of, move, after};
+ghost use Rattle.engine.specs.Stepped.{Numbered, Due};
 
-use model::{FLAGS, Place, Shape};
-use registers::{PAIRS, REGISTERS};
+use model::{Place, Shape, Shared, State};
 use routine::takes;
-use rows::NUMBERS;
 use steps::Step;
 use terms::{ProcessNumber, Wait};
 
 // The flag of value v as a number: 1 where it is set.
-fn flag(v: u32, flags: &[bool; FLAGS]) -> u32
+fn flag(v: u32, shared: &Shared) -> u32
     requires { v ≤ most_slots }
-    ensures { result ≡ flag_at (shared_of flags.now) v }
+    ensures { result ≡ flag_at shared.now v }
 {
-    let at = v as usize;
-    if flags[at] {
-        return 1;
-    }
-    0
+    shared.flags[v as usize] as u32
 }
 
-// A move of process i, whose row is row j.
-fn make_move(
-    shape: Shape,
-    i: ProcessNumber,
-    tick: u32,
-    j: usize,
-    rows: &mut [u32; NUMBERS],
-    values: &mut [u32; REGISTERS],
-    deadlines: &mut [u32; PAIRS],
-    last: &mut u32,
-    flags: &mut [bool; FLAGS],
-)
+// A move of process i.
+#[tactic(auto, unfolding(model::specs::Run::move_at, bank::specs::Registers::after_read, bank::specs::Registers::after_write))]
+fn make_move(shape: Shape, i: ProcessNumber, tick: u32, state: &mut State)
     requires sound { Sound shape }
     requires numbered { Numbered i }
     requires tick_le_top_tick { tick ≤ top_tick }
-    requires row { IsRow j }
-    requires whole { Whole rows.old }
-    requires room { Room shape (row_in rows.old j) }
-    ensures { Moved shape (row_in rows.old j).local.place i tick j rows.old rows.new
-        (bank_of values.old deadlines.old last.old) (bank_of values.new deadlines.new last.new)
-        (shared_of flags.old) (shared_of flags.new) }
+    requires room { Room shape (row_of state.old i) }
+    ensures { state.new ≡ move shape state.old i tick }
 {
-    let c = rows::slot(j, rows);
-    let place = rows::place(j, rows);
-    match place {
-        Place::Rest => {
-            takes::rest(shape, j, rows);
-        }
+    state.newest = tick;
+    let bank = &mut state.bank;
+    let row = &mut state.rows[(i.0 - 1) as usize];
+    let c = row.local.slot;
+    match row.local.place {
+        Place::Rest => takes::rest(shape, row),
         Place::Look => {
-            let v = registers::read_granted(values, deadlines, last, i, c, tick, shape.delta);
-            takes::look(shape, v, j, rows);
+            let v = registers::read_granted(
+                &bank.values,
+                &mut bank.deadlines,
+                &mut bank.last,
+                i,
+                c,
+                tick,
+                shape.delta,
+            );
+            takes::look(shape, v, row);
         }
         Place::Put => {
-            let v = rows::own(j, rows);
-            let late = registers::write_granted(values, deadlines, last, i, c, tick, v);
-            takes::put(shape, late, j, rows);
+            let late = registers::write_granted(
+                &mut bank.values,
+                &mut bank.deadlines,
+                &mut bank.last,
+                i,
+                c,
+                tick,
+                row.own,
+            );
+            takes::put(shape, late, row);
         }
-        Place::Wait => {
-            takes::wait(shape, tick, j, rows);
-        }
+        Place::Wait => takes::wait(shape, tick, row),
         Place::Check => {
-            let v = registers::read_granted(values, deadlines, last, i, c, tick, Wait::UNLIMITED);
-            takes::check(shape, v, j, rows);
+            let v = registers::read_granted(
+                &bank.values,
+                &mut bank.deadlines,
+                &mut bank.last,
+                i,
+                c,
+                tick,
+                Wait::UNLIMITED,
+            );
+            takes::check(shape, v, row);
         }
         Place::Critical => {
-            let late = registers::write_granted(values, deadlines, last, i, c, tick, 0);
-            takes::critical(shape, late, j, rows);
+            let late = registers::write_granted(
+                &mut bank.values,
+                &mut bank.deadlines,
+                &mut bank.last,
+                i,
+                c,
+                tick,
+                0,
+            );
+            takes::critical(shape, late, row);
         }
         Place::Flag => {
-            let v = rows::own(j, rows) as usize;
-            flags[v] = true;
-            takes::flag(shape, j, rows);
+            state.shared.flags[row.own as usize] = true;
+            takes::flag(shape, row);
         }
         Place::Scan => {
-            let v = flag(rows::scan(j, rows), flags);
-            takes::scan(shape, v, j, rows);
+            let v = flag(row.local.scan, &state.shared);
+            takes::scan(shape, v, row);
         }
-        Place::Decided => {
-            takes::decided(shape, j, rows);
-        }
+        Place::Decided => takes::decided(shape, row),
     }
 }
 
-// An accepted step of the process with row j: a move, or a crash.
-pub fn take_step(
-    shape: Shape,
-    step: Step,
-    j: usize,
-    rows: &mut [u32; NUMBERS],
-    values: &mut [u32; REGISTERS],
-    deadlines: &mut [u32; PAIRS],
-    last: &mut u32,
-    flags: &mut [bool; FLAGS],
-)
+// An accepted step: a move, or a crash.
+#[tactic(auto, unfolding(model::specs::Run::after, model::specs::Run::stop))]
+pub fn take_step(shape: Shape, step: Step, state: &mut State)
     requires sound { Sound shape }
     requires due { Due step }
-    requires row { IsRow j }
-    requires whole { Whole rows.old }
-    requires room { Room shape (row_in rows.old j) }
-    ensures { Stepped shape step j rows.old rows.new
-        (bank_of values.old deadlines.old last.old) (bank_of values.new deadlines.new last.new)
-        (shared_of flags.old) (shared_of flags.new) }
+    requires room { Room shape (row_of state.old step.process) }
+    ensures { state.new ≡ after shape state.old step }
 {
     let crashes = step.event != 0;
     if crashes {
-        rows::crash(j, rows);
+        let j = (step.process.0 - 1) as usize;
+        state.rows[j].crash();
+        state.newest = step.tick;
         return;
     }
-    make_move(
-        shape,
-        step.process,
-        step.tick,
-        j,
-        rows,
-        values,
-        deadlines,
-        last,
-        flags,
-    );
+    make_move(shape, step.process, step.tick, state);
 }

@@ -1,84 +1,54 @@
 // The run: a trace's records one after the other, with the state in place; and the entry point.
-ghost use Rattle.std.specs.Prelude.{◌≡◌, ◌*◌, ◌≤◌, length, replicate};
+ghost use Rattle.std.specs.Prelude.{◌≡◌, ◌*◌, ◌≤◌, length};
 ghost use Rattle.terms.specs.Limits.{most_processes, most_steps};
 ghost use Rattle.model.specs.Bounds.{Sound, Starts};
 ghost use Rattle.model.specs.Sizes.{line_width};
-ghost use Rattle.model.specs.Run.{start_rows, shape_of};
+ghost use Rattle.model.specs.Run.{shape_of};
 ghost use Rattle.model.specs.Report.{ran_of};
-ghost use Rattle.rows.specs.Rows.{rows_width, Whole, rows_in};
-ghost use Rattle.engine.specs.Stepped.{parts, state_in, Begins, Walked, ran_from};
+ghost use Rattle.engine.specs.Stepped.{Begins, Walked, ran_from};
 
 use crate::{moves, report};
-use model::{FLAGS, LINE, Outcome, Shape};
-use registers::{PAIRS, REGISTERS};
+use bank::Bank;
+use model::{FLAGS, LINE, Outcome, ROWS, Row, Shape, Shared, State};
 use routine::judges;
-use rows::NUMBERS;
 use setups::{PLACES, Setup};
-use steps::Step;
-use terms::{Trace, Wait};
+use terms::Trace;
 
-// Every process begins, in rows that are blank.
-fn begin_rows(shape: Shape, starts: [u8; PLACES], rows: &mut [u32; NUMBERS])
-    requires count_le_most_processes { shape.count ≤ most_processes }
-    requires blank { rows.old ≡ replicate rows_width 0 }
-    ensures whole { Whole rows.new }
-    ensures rows_after { rows_in rows.new ≡ start_rows shape 0 starts }
-{
-    let kind = shape.kind;
-    let mut j: usize = 0;
-    while j < shape.count as usize {
-        rows::begin(kind, starts[j], j, rows);
-        j = j + 1;
-    }
-}
-
-// The records of `rest`, one after the other: the lent parts are the state that a run begins with, and then the state that the records left.
-fn take_records(
-    shape: Shape,
-    rest: &[u8],
-    rows: &mut [u32; NUMBERS],
-    values: &mut [u32; REGISTERS],
-    deadlines: &mut [u32; PAIRS],
-    last: &mut u32,
-    flags: &mut [bool; FLAGS],
-    newest: &mut u32,
-) -> Outcome
+// The records of `rest`, one after the other: `state` is one that a run begins with, and then the state that the records left.
+fn take_records(shape: Shape, rest: &[u8], state: &mut State) -> Outcome
     requires sound { Sound shape }
     requires count_le_most_processes { shape.count ≤ most_processes }
     requires rest_len_bound { length rest.now ≤ 8 * most_steps }
-    requires whole { Whole rows.old }
-    requires begins { Begins shape (state_in (parts rows.old values.old deadlines.old last.old flags.old newest.old)) }
-    ensures { Walked shape
-        (state_in (parts rows.old values.old deadlines.old last.old flags.old newest.old))
-        rest.now result
-        (parts rows.new values.new deadlines.new last.new flags.new newest.new) }
+    requires begins { Begins shape state.old }
+    ensures { Walked shape state.old rest.now result state.new }
 {
-    let mut at: usize = 0;
-    let mut k: u32 = 0;
-    while at < rest.len() {
-        let begin = at;
+    let records = rest.len().div_ceil(8);
+    for k in 0..records {
+        let begin = k * 8;
+        let at = k as u32 + 1;
         let read = steps::read_step_of(shape.count, &rest[begin..]);
-        k = k + 1;
         if read.refusal != 0 {
             return Outcome {
                 number: read.refusal,
-                at: k,
+                at,
             };
         }
         let step = read.step;
         let j = (step.process.0 - 1) as usize;
-        let no = judges::judge(shape, j, rows, *newest, step);
+        let no = judges::judge(shape, &state.rows[j], state.newest, step);
         if no != 0 {
-            return Outcome { number: no, at: k };
+            return Outcome { number: no, at };
         }
-        moves::take_step(shape, step, j, rows, values, deadlines, last, flags);
-        *newest = step.tick;
-        at = at + 8;
+        moves::take_step(shape, step, state);
     }
-    Outcome { number: 0, at: k }
+    Outcome {
+        number: 0,
+        at: records as u32,
+    }
 }
 
 // A run of the records of `rest`, from its fresh state to its report.
+#[tactic(auto, unfolding(model::specs::Run::blank_state))]
 fn run_steps(shape: Shape, starts: [u8; PLACES], rest: &[u8], report: &mut [u32]) -> Outcome
     requires sound { Sound shape }
     requires starts { Starts shape starts }
@@ -86,27 +56,20 @@ fn run_steps(shape: Shape, starts: [u8; PLACES], rest: &[u8], report: &mut [u32]
     requires room { line_width * shape.count ≤ length report.old }
     ensures { record { outcome = result; report = report.new } ≡ ran_from shape starts rest.now report.old }
 {
-    let mut rows = [0u32; NUMBERS];
-    begin_rows(shape, starts, &mut rows);
-    let mut values = [0u32; REGISTERS];
-    let mut deadlines = [Wait::UNLIMITED; PAIRS];
-    let mut last: u32 = 0;
-    let mut flags = [false; FLAGS];
-    let mut newest: u32 = 0;
-    let outcome = take_records(
-        shape,
-        rest,
-        &mut rows,
-        &mut values,
-        &mut deadlines,
-        &mut last,
-        &mut flags,
-        &mut newest,
-    );
+    let mut state = State {
+        rows: [Row::BLANK; ROWS],
+        bank: Bank::fresh(),
+        shared: Shared {
+            flags: [false; FLAGS],
+        },
+        newest: 0,
+    };
+    state.begin(shape, starts);
+    let outcome = take_records(shape, rest, &mut state);
     if outcome.number != 0 {
         return outcome;
     }
-    report::write_lines(shape, &rows, report);
+    report::write_lines(shape, &state.rows, report);
     outcome
 }
 

@@ -1,9 +1,29 @@
--- The promise of the fresh state settles it. (`Settles` has the meaning.)
+-- Each promise settles its outcome: the answer, and the row or the state that is lent. (`Settles` has the meaning.)
 -- Assumes nothing.
 use mathlib.Core.Path.{refl, sym, ◌∙◌}
 use Rattle.terms.proofs.Settles.{Settles}
+use Rattle.model.proofs.Place.number.Kinds as number_kinds
+use Rattle.model.proofs.Place.number.Reads as number
+use Rattle.model.proofs.Row.count.Kinds as count_kinds
+use Rattle.model.proofs.Row.count.Reads as count
+use Rattle.model.proofs.Row.crash.Kinds as crash_kinds
+use Rattle.model.proofs.Row.crash.Reads as crash
+use Rattle.model.proofs.State.begin.Kinds as begin_kinds
+use Rattle.model.proofs.State.begin.Reads as begin
 use Rattle.model.proofs.State.fresh.Kinds as fresh_kinds
 use Rattle.model.proofs.State.fresh.Reads as fresh
+
+pub number_settles : Settles 0 number_kinds.ps number_kinds.r number.Post
+number_settles κs a x y u v p q = (p ∙ sym q, refl)
+
+pub count_settles : Settles 1 count_kinds.ps count_kinds.r count.Post
+count_settles κs a x y u v p q = (refl, (λ k. ((p ∙ sym q) k, (tt, tt))))
+
+pub crash_settles : Settles 1 crash_kinds.ps crash_kinds.r crash.Post
+crash_settles κs a x y u v p q = (refl, (λ k. ((p ∙ sym q) k, tt)))
+
+pub begin_settles : Settles 1 begin_kinds.ps begin_kinds.r begin.Post
+begin_settles κs a x y u v p q = (refl, (λ k. ((p ∙ sym q) k, (tt, (tt, tt)))))
 
 pub fresh_settles : Settles 0 fresh_kinds.ps fresh_kinds.r fresh.Post
 fresh_settles κs a x y u v p q = (p ∙ sym q, refl)

@@ -42,3 +42,8 @@ pub record Room (u : Shape) (r : Row) : Type 0 where
   pub scan : r.local.scan ≤ most_slots
   pub moves : r.moves < most_steps
   pub lates : r.lates < most_steps
+
+-- one move more can be counted
+pub record Uncounted (r : Row) : Type 0 where
+  pub moves : r.moves < most_steps
+  pub lates : r.lates < most_steps

@@ -4,7 +4,7 @@ use Rattle.terms.specs.declared.ProcessNumber.{ProcessNumber}
 use Rattle.terms.specs.Limits.{most_processes, most_steps}
 use Rattle.terms.specs.Numbers.{index_of, slot_of}
 use Rattle.terms.specs.Refusal.{refuse, ◌then◌, if_accepted}
-use Rattle.bank.specs.Registers.{fresh_bank_of}
+use Rattle.bank.specs.Registers.{fresh_bank, fresh_bank_of}
 use Rattle.setups.specs.declared.Setup.{Setup}
 use Rattle.steps.specs.declared.Step.{Step}
 use Rattle.records.specs.Record.{byte}
@@ -41,6 +41,16 @@ start_row u j x = cond (ltb j u.count) (begin (routine u) j x) blank
 unfoldable pub start_rows : Shape → ℕ → List ℕ → List Row
 start_rows u j [] = []
 start_rows u j (x ∷ xs) = start_row u j x ∷ start_rows u (suc j) xs
+
+-- the state before any process begins
+unfoldable pub blank_state : State
+blank_state =
+    record {
+      rows = replicate most_processes blank;
+      bank = fresh_bank;
+      shared = record { flags = replicate flag_count false };
+      newest = 0;
+    }
 
 -- the state at the start, with as many rows as there are start bytes
 unfoldable pub fresh : Shape → List ℕ → State

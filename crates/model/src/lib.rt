@@ -3,8 +3,10 @@
 
 ghost use Rattle.std.specs.Prelude.{◌≡◌, ◌<◌};
 ghost use Rattle.terms.specs.Limits.{most_processes};
-ghost use Rattle.model.specs.Routine.{routine_of};
-ghost use Rattle.model.specs.Run.{start_rows};
+ghost use Rattle.model.specs.Bounds.{Uncounted};
+ghost use Rattle.model.specs.Report.{shown_of};
+ghost use Rattle.model.specs.Routine.{routine_of, counted, crash};
+ghost use Rattle.model.specs.Run.{blank, blank_state, fresh};
 
 use bank::Bank;
 use kinds::Kind;
@@ -23,8 +25,8 @@ pub const ROWS: usize = Trace::PROCESSES as usize;
 // The flag of value v stands at v; entry 0 is not used.
 pub const FLAGS: usize = Trace::SLOTS as usize + 1;
 
-// Where a process stands. A crash is no place: it is a mark beside it, in the row.
-#[derive(Clone, Copy)]
+// Where a process stands, in the order of the numbers that the report shows. A crash is no place: it is a mark beside it, in the row.
+#[derive(Clone, Copy, PartialEq, Eq)]
 pub enum Place {
     Rest,
     Look,
@@ -107,71 +109,100 @@ pub struct Outcome {
     pub at: u32,
 }
 
-impl Row {
-    // A process that has not moved, at its place with slot c, that writes `own`.
-    fn unmoved(place: Place, c: SlotNumber, own: u32) -> Self
-        ensures { result ≡ Rattle.model.specs.Routine.unmoved place c own }
+impl Place {
+    // What the report shows of it.
+    pub fn number(self) -> u32
+        ensures { result ≡ shown_of self }
     {
-        Row {
-            local: Local {
-                place,
-                slot: c,
-                decided: 0,
-                wake: 0,
-                scan: 0,
-            },
-            own,
-            moves: 0,
-            lates: 0,
-            crashed: false,
-        }
+        self as u32
     }
+}
 
-    // The row at index j, of a process with start byte x.
-    fn begin(kind: Kind, j: u32, x: u8) -> Self
-        requires { j < most_processes }
-        ensures { result ≡ Rattle.model.specs.Routine.begin (routine_of kind) j x }
+impl Row {
+    // What stands past the last process.
+    pub const BLANK: Row = Row {
+        local: Local {
+            place: Place::Rest,
+            slot: SlotNumber(0),
+            decided: 0,
+            wake: 0,
+            scan: 0,
+        },
+        own: 0,
+        moves: 0,
+        lates: 0,
+        crashed: false,
+    };
+
+    // A blank row becomes that of the process at index j, with start byte x.
+    fn begin(&mut self, kind: Kind, j: u32, x: u8)
+        requires j_lt_most_processes { j < most_processes }
+        requires blank { self.old ≡ blank }
+        ensures { self.new ≡ Rattle.model.specs.Routine.begin (routine_of kind) j x }
     {
         let start = x as u32;
         match kind {
-            Kind::Lock => Row::unmoved(Place::Rest, SlotNumber(start), j + 1),
-            Kind::Plain => Row::unmoved(Place::Look, SlotNumber(0), start),
-            Kind::Fast => Row::unmoved(Place::Flag, SlotNumber(0), start),
+            Kind::Lock => {
+                self.local.place = Place::Rest;
+                self.local.slot = SlotNumber(start);
+                self.own = j + 1;
+            }
+            Kind::Plain => {
+                self.local.place = Place::Look;
+                self.own = start;
+            }
+            Kind::Fast => {
+                self.local.place = Place::Flag;
+                self.own = start;
+            }
         }
+    }
+
+    // A move, and a late write where the write was late, are counted.
+    pub fn count(&mut self, late: bool)
+        requires { Uncounted self.old }
+        ensures { self.new ≡ counted late self.old.local self.old }
+    {
+        self.moves += 1;
+        if late {
+            self.lates += 1;
+        }
+    }
+
+    // A crash leaves its mark, and the rest as it stands.
+    pub fn crash(&mut self)
+        ensures { self.new ≡ crash self.old }
+    {
+        self.crashed = true;
     }
 }
 
 impl State {
-    // The rows at the start: where the kind begins, and blank past the last process.
-    fn start_rows(shape: Shape, starts: [u8; ROWS]) -> [Row; ROWS]
-        ensures { result ≡ start_rows shape 0 starts }
+    // Every process begins, in a state in which none has.
+    pub fn begin(&mut self, shape: Shape, starts: [u8; ROWS])
+        requires { self.old ≡ blank_state }
+        ensures { self.new ≡ fresh shape starts }
     {
-        let kind = shape.kind;
-        let mut rows = [Row::unmoved(Place::Rest, SlotNumber(0), 0); ROWS];
-        let mut j: usize = 0;
-        while j < ROWS {
-            if shape.count <= j as u32 {
-                return rows;
-            }
-            rows[j] = Row::begin(kind, j as u32, starts[j]);
-            j = j + 1;
+        let begun = ROWS.min(shape.count as usize);
+        for j in 0..begun {
+            self.rows[j].begin(shape.kind, j as u32, starts[j]);
         }
-        rows
     }
 
     // The state at the start of a run.
+    #[tactic(auto, unfolding(crate::specs::Run::blank_state))]
     pub fn fresh(shape: Shape, starts: [u8; ROWS]) -> Self
-        ensures { result ≡ Rattle.model.specs.Run.fresh shape starts }
+        ensures { result ≡ fresh shape starts }
     {
-        let rows = State::start_rows(shape, starts);
-        let bank = Bank::fresh();
-        State {
-            rows,
-            bank,
+        let mut state = State {
+            rows: [Row::BLANK; ROWS],
+            bank: Bank::fresh(),
             shared: Shared {
                 flags: [false; FLAGS],
             },
             newest: 0,
-        }
+        };
+        state.begin(shape, starts);
+        state
     }
 }

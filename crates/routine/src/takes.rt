@@ -5,31 +5,27 @@ ghost use Rattle.model.specs.Bounds.{Sound, Room};
 ghost use Rattle.model.specs.Time.{wake_at};
 ghost use Rattle.model.specs.declared.Place.{Place};
 ghost use Rattle.model.specs.Routine.{SlotRule, slots_of, scan_at, scan_from};
-ghost use Rattle.rows.specs.Rows.{row_in, IsRow, Whole, Changed, turn, taken, Takes};
+ghost use Rattle.routine.specs.Taken.{turn, taken, Takes};
 
 use kinds::Kind;
-use model::{Place, Shape};
-use rows::NUMBERS;
+use model::{Local, Place, Row, Shape};
 use terms::SlotNumber;
 
 // The slots that a lock's process takes: when it leaves rest, when it finds its slot filled, when it loses its check.
 
-fn leave(shape: Shape, j: usize, rows: &[u32; NUMBERS]) -> SlotNumber
-    requires { IsRow j }
-    ensures { result ≡ (slots_of SlotRule.Ring shape (row_in rows.now j).local).leave }
+fn leave(shape: Shape, local: &Local) -> SlotNumber
+    ensures { result ≡ (slots_of SlotRule.Ring shape local.now).leave }
 {
-    rows::slot(j, rows)
+    local.slot
 }
 
 // The next slot round. A slot that there is takes no division.
-fn filled(shape: Shape, j: usize, rows: &[u32; NUMBERS]) -> SlotNumber
-    requires row { IsRow j }
+fn filled(shape: Shape, local: &Local) -> SlotNumber
     requires sound { Sound shape }
-    requires slot { (row_in rows.now j).local.slot.0 < most_slots }
-    ensures { result ≡ (slots_of SlotRule.Ring shape (row_in rows.now j).local).filled }
+    requires slot { local.now.slot.0 < most_slots }
+    ensures { result ≡ (slots_of SlotRule.Ring shape local.now).filled }
 {
-    let c = rows::slot(j, rows);
-    let next = c.0 + 1;
+    let next = local.slot.0 + 1;
     let inside = next < shape.size;
     if inside {
         return SlotNumber(next);
@@ -40,215 +36,186 @@ fn filled(shape: Shape, j: usize, rows: &[u32; NUMBERS]) -> SlotNumber
     SlotNumber(next % shape.size)
 }
 
-fn lost(shape: Shape, j: usize, rows: &[u32; NUMBERS]) -> SlotNumber
-    requires { IsRow j }
-    ensures { result ≡ (slots_of SlotRule.Ring shape (row_in rows.now j).local).lost }
+fn lost(shape: Shape, local: &Local) -> SlotNumber
+    ensures { result ≡ (slots_of SlotRule.Ring shape local.now).lost }
 {
-    rows::slot(j, rows)
+    local.slot
 }
 
 // The scan goes on at value v, or ends past the last one.
-fn scan_at(size: u32, v: u32, j: usize, rows: &mut [u32; NUMBERS])
-    requires { IsRow j }
-    ensures { Changed j (turn (scan_at size v)) rows.old rows.new }
+fn scan_at(size: u32, v: u32, row: &mut Row)
+    ensures { row.new ≡ turn (scan_at size v) row.old }
 {
     if v <= size {
-        rows::to(Place::Scan, j, rows);
-        rows::scans(v, j, rows);
+        row.local.place = Place::Scan;
+        row.local.scan = v;
         return;
     }
-    rows::to(Place::Check, j, rows); // fig. 8, line 3, none left
+    row.local.place = Place::Check; // fig. 8, line 3, none left
 }
 
 // From value v on, its own skipped.
-fn scan_from(size: u32, v: u32, j: usize, rows: &mut [u32; NUMBERS])
-    requires row { IsRow j }
-    requires v_bound { v ≤ most_slots + 1 }
-    ensures { Changed j (λ r. turn (scan_from size r.own v) r) rows.old rows.new }
+fn scan_from(size: u32, v: u32, row: &mut Row)
+    requires { v ≤ most_slots + 1 }
+    ensures { row.new ≡ turn (scan_from size row.old.own v) row.old }
 {
-    if v == rows::own(j, rows) {
-        scan_at(size, v + 1, j, rows);
+    if v == row.own {
+        scan_at(size, v + 1, row);
         return;
     }
-    scan_at(size, v, j, rows);
+    scan_at(size, v, row);
 }
 
-pub fn rest(shape: Shape, j: usize, rows: &mut [u32; NUMBERS])
-    requires row { IsRow j }
-    requires room { Room shape (row_in rows.old j) }
-    ensures { Takes shape Place.Rest 0 false j rows.old rows.new }
+pub fn rest(shape: Shape, row: &mut Row)
+    requires { Room shape row.old }
+    ensures { Takes shape Place.Rest 0 false row.old row.new }
 {
-    rows::count(false, j, rows);
-    let kind = shape.kind;
-    match kind {
+    row.count(false);
+    match shape.kind {
         Kind::Lock => {
-            let c = leave(shape, j, rows);
-            rows::to(Place::Look, j, rows); // fig. 3, the call
-            rows::on(c, j, rows); // fig. 3, the call
+            row.local.slot = leave(shape, &row.local); // fig. 3, the call
+            row.local.place = Place::Look; // fig. 3, the call
         }
-        Kind::Plain => {}
-        Kind::Fast => {}
+        Kind::Plain | Kind::Fast => {}
     }
 }
 
 // The register holds v.
-pub fn look(shape: Shape, v: u32, j: usize, rows: &mut [u32; NUMBERS])
-    requires row { IsRow j }
-    requires whole { Whole rows.old }
+pub fn look(shape: Shape, v: u32, row: &mut Row)
     requires sound { Sound shape }
-    requires room { Room shape (row_in rows.old j) }
-    ensures { Takes shape Place.Look v false j rows.old rows.new }
+    requires room { Room shape row.old }
+    ensures { Takes shape Place.Look v false row.old row.new }
 {
-    rows::count(false, j, rows);
+    row.count(false);
     if v == 0 {
-        rows::to(Place::Put, j, rows); // fig. 3, line 2; fig. 7, line 1; fig. 8, line 2
+        row.local.place = Place::Put; // fig. 3, line 2; fig. 7, line 1; fig. 8, line 2
         return;
     }
-    let kind = shape.kind;
-    match kind {
+    match shape.kind {
         Kind::Lock => {
-            let c = filled(shape, j, rows);
-            rows::to(Place::Look, j, rows); // fig. 3, line 2
-            rows::on(c, j, rows); // fig. 3, line 2
+            row.local.slot = filled(shape, &row.local); // fig. 3, line 2
+            row.local.place = Place::Look; // fig. 3, line 2
         }
         Kind::Plain => {
-            rows::to(Place::Wait, j, rows); // fig. 7, line 1
+            row.local.place = Place::Wait; // fig. 7, line 1
         }
         Kind::Fast => {
-            scan_from(shape.size, 1, j, rows); // fig. 8, line 2
+            scan_from(shape.size, 1, row); // fig. 8, line 2
         }
     }
 }
 
 // The write was late, or done.
-pub fn put(shape: Shape, late: bool, j: usize, rows: &mut [u32; NUMBERS])
-    requires row { IsRow j }
-    requires room { Room shape (row_in rows.old j) }
-    ensures { Takes shape Place.Put 0 late j rows.old rows.new }
+pub fn put(shape: Shape, late: bool, row: &mut Row)
+    requires { Room shape row.old }
+    ensures { Takes shape Place.Put 0 late row.old row.new }
 {
-    rows::count(late, j, rows);
-    let kind = shape.kind;
-    match kind {
+    row.count(late);
+    match shape.kind {
         Kind::Lock => {
             if late {
-                rows::to(Place::Check, j, rows); // fig. 3, line 3
+                row.local.place = Place::Check; // fig. 3, line 3
                 return;
             }
-            rows::to(Place::Wait, j, rows); // fig. 3, line 3
+            row.local.place = Place::Wait; // fig. 3, line 3
         }
         Kind::Plain => {
-            rows::to(Place::Look, j, rows); // fig. 7, line 1
+            row.local.place = Place::Look; // fig. 7, line 1
         }
         Kind::Fast => {
-            rows::to(Place::Look, j, rows); // fig. 8, line 2
+            row.local.place = Place::Look; // fig. 8, line 2
         }
     }
 }
 
 // The wait begins at `tick`.
-pub fn wait(shape: Shape, tick: u32, j: usize, rows: &mut [u32; NUMBERS])
-    requires row { IsRow j }
+pub fn wait(shape: Shape, tick: u32, row: &mut Row)
     requires sound { Sound shape }
-    requires room { Room shape (row_in rows.old j) }
+    requires room { Room shape row.old }
     requires tick_le_top_tick { tick ≤ top_tick }
-    ensures { Changed j (taken shape Place.Wait (wake_at shape.delta tick) 0 false) rows.old rows.new }
+    ensures { row.new ≡ taken shape Place.Wait (wake_at shape.delta tick) 0 false row.old }
 {
-    rows::count(false, j, rows);
-    rows::to(Place::Check, j, rows); // fig. 3, line 3; fig. 7, line 2; fig. 8, line 3
-    rows::until(tick + shape.delta + 1, j, rows); // fig. 3, line 3; fig. 7, line 2; fig. 8, line 3
+    row.count(false);
+    row.local.place = Place::Check; // fig. 3, line 3; fig. 7, line 2; fig. 8, line 3
+    row.local.wake = tick + shape.delta + 1; // fig. 3, line 3; fig. 7, line 2; fig. 8, line 3
 }
 
 // The register holds v.
-pub fn check(shape: Shape, v: u32, j: usize, rows: &mut [u32; NUMBERS])
-    requires row { IsRow j }
-    requires room { Room shape (row_in rows.old j) }
-    ensures { Takes shape Place.Check v false j rows.old rows.new }
+pub fn check(shape: Shape, v: u32, row: &mut Row)
+    requires { Room shape row.old }
+    ensures { Takes shape Place.Check v false row.old row.new }
 {
-    rows::count(false, j, rows);
-    let own = rows::own(j, rows);
-    let kind = shape.kind;
-    match kind {
+    row.count(false);
+    match shape.kind {
         Kind::Lock => {
-            if v == own {
-                rows::to(Place::Critical, j, rows); // fig. 3, line 4
+            if v == row.own {
+                row.local.place = Place::Critical; // fig. 3, line 4
                 return;
             }
-            let c = lost(shape, j, rows);
-            rows::to(Place::Look, j, rows); // fig. 3, line 4
-            rows::on(c, j, rows); // fig. 3, line 4
+            row.local.slot = lost(shape, &row.local); // fig. 3, line 4
+            row.local.place = Place::Look; // fig. 3, line 4
         }
         Kind::Plain => {
-            rows::to(Place::Decided, j, rows); // fig. 7, line 3
-            rows::decides(v, j, rows); // fig. 7, line 3
+            row.local.place = Place::Decided; // fig. 7, line 3
+            row.local.decided = v; // fig. 7, line 3
         }
         Kind::Fast => {
-            rows::to(Place::Decided, j, rows); // fig. 8, line 4
-            rows::decides(v, j, rows); // fig. 8, line 4
+            row.local.place = Place::Decided; // fig. 8, line 4
+            row.local.decided = v; // fig. 8, line 4
         }
     }
 }
 
 // The write that empties the slot was late, or done.
-pub fn critical(shape: Shape, late: bool, j: usize, rows: &mut [u32; NUMBERS])
-    requires row { IsRow j }
-    requires room { Room shape (row_in rows.old j) }
-    ensures { Takes shape Place.Critical 0 late j rows.old rows.new }
+pub fn critical(shape: Shape, late: bool, row: &mut Row)
+    requires { Room shape row.old }
+    ensures { Takes shape Place.Critical 0 late row.old row.new }
 {
-    rows::count(late, j, rows);
-    let kind = shape.kind;
-    match kind {
+    row.count(late);
+    match shape.kind {
         Kind::Lock => {
-            rows::to(Place::Rest, j, rows); // fig. 3, line 5
+            row.local.place = Place::Rest; // fig. 3, line 5
         }
-        Kind::Plain => {}
-        Kind::Fast => {}
+        Kind::Plain | Kind::Fast => {}
     }
 }
 
-pub fn flag(shape: Shape, j: usize, rows: &mut [u32; NUMBERS])
-    requires row { IsRow j }
-    requires room { Room shape (row_in rows.old j) }
-    ensures { Takes shape Place.Flag 0 false j rows.old rows.new }
+pub fn flag(shape: Shape, row: &mut Row)
+    requires { Room shape row.old }
+    ensures { Takes shape Place.Flag 0 false row.old row.new }
 {
-    rows::count(false, j, rows);
-    let kind = shape.kind;
-    match kind {
-        Kind::Lock => {}
-        Kind::Plain => {}
+    row.count(false);
+    match shape.kind {
+        Kind::Lock | Kind::Plain => {}
         Kind::Fast => {
-            rows::to(Place::Look, j, rows); // fig. 8, line 1
+            row.local.place = Place::Look; // fig. 8, line 1
         }
     }
 }
 
 // The flag is v: 1 or 0.
-pub fn scan(shape: Shape, v: u32, j: usize, rows: &mut [u32; NUMBERS])
-    requires row { IsRow j }
-    requires whole { Whole rows.old }
-    requires room { Room shape (row_in rows.old j) }
-    ensures { Takes shape Place.Scan v false j rows.old rows.new }
+pub fn scan(shape: Shape, v: u32, row: &mut Row)
+    requires { Room shape row.old }
+    ensures { Takes shape Place.Scan v false row.old row.new }
 {
-    rows::count(false, j, rows);
-    let kind = shape.kind;
-    match kind {
-        Kind::Lock => {}
-        Kind::Plain => {}
+    row.count(false);
+    match shape.kind {
+        Kind::Lock | Kind::Plain => {}
         Kind::Fast => {
             if v == 0 {
-                let next = rows::scan(j, rows) + 1;
-                scan_from(shape.size, next, j, rows); // fig. 8, line 3
+                let next = row.local.scan + 1;
+                scan_from(shape.size, next, row); // fig. 8, line 3
                 return;
             }
-            rows::to(Place::Wait, j, rows); // fig. 8, line 3
+            row.local.place = Place::Wait; // fig. 8, line 3
         }
     }
 }
 
 // A process that has decided stays where it is.
-pub fn decided(shape: Shape, j: usize, rows: &mut [u32; NUMBERS])
-    requires row { IsRow j }
-    requires room { Room shape (row_in rows.old j) }
-    ensures { Takes shape Place.Decided 0 false j rows.old rows.new }
+pub fn decided(shape: Shape, row: &mut Row)
+    requires { Room shape row.old }
+    ensures { Takes shape Place.Decided 0 false row.old row.new }
 {
-    rows::count(false, j, rows); // and no write
+    row.count(false); // and no write
 }
