@@ -67,9 +67,9 @@ module _ (n size spare j x : ℕ) where
 
 -- the code asks by the rule alone, the table also by the index
 module _ (κ : Kind) (n size spare : ℕ) where
-  pub starts_rule : (i : ℕ) (s : List ℕ) → list_any (no_start (proposes κ) size) s ≡ any_from i (bad_start κ n size spare) s
+  pub starts_rule : (i : ℕ) (s : List ℕ) → any_from i (bad_start κ n size spare) s ≡ list_any (no_start (proposes κ) size) s
   starts_rule i [] = refl
-  starts_rule i (x ∷ xs) = rw (start_rule n size spare i x κ, starts_rule (suc i) xs)
+  starts_rule i (x ∷ xs) = rw (← start_rule n size spare i x κ, starts_rule (suc i) xs)
 
 -- LIMITS
 
@@ -94,6 +94,9 @@ module _ (most kind n size spare : ℕ) where
 
   pub limits_size : Limits most kind n size spare → (1 ≤ size) × (size ≤ most_slots) × (spare ≡ 0)
   limits_size l = size_said (kind_of kind) n size spare l.sized
+
+  pub limits_small : 0 ≡ setup_limits most kind n size spare → (setup_limits most kind n size spare ≡ 0) × (size ≤ most_slots)
+  limits_small h = (sym h, (limits_size (limits_said (sym h))).1)
 
 -- READING
 
@@ -262,3 +265,8 @@ module _ (most kind size : ℕ) (starts : List ℕ) (room : ℕ) where
   pub said_setup_write : WritableSetup most kind size starts room → setup_write_refusal most kind size starts room ≡ 0
   unfolding setup_write_refusal
   said_setup_write w = simp (said_limits _ _ _ _ _ w.limits, w.good, le-ltb _ _ w.fits)
+
+  pub writes_small : 0 ≡ setup_write_refusal most kind size starts room → (setup_write_refusal most kind size starts room ≡ 0) × (kind ≤ last_kind) × (length starts ≤ most) × (size ≤ most_slots) × (8 + length starts ≤ room)
+  writes_small h =
+      let w = setup_write_said (sym h) in
+      (sym h, w.limits.kind_high, w.limits.few, (limits_size _ _ _ _ _ w.limits).1, w.fits)

@@ -105,11 +105,11 @@ fn head_refusal(most: u32, trace: &[u8]) -> Result<(), Refusal>
     if trace.len() < 8 {
         return Err(Refusal::SetupCut);
     }
-    if !trace.starts_with(&MARK) {
+    if trace[0] != MARK[0] || trace[1] != MARK[1] {
         return Err(Refusal::SetupMark);
     }
     let n = usize::from(trace[3]);
-    setup_limits(most, u32::from(trace[2]), n, u32::from(trace[4]), u32::from(trace[5]))?;
+    setup_limits(most, trace[2] as u32, n, trace[4] as u32, trace[5] as u32)?;
     if trace.len() < 8 + n {
         return Err(Refusal::SetupCut);
     }
@@ -173,7 +173,7 @@ pub fn setup_rest(trace: &[u8]) -> &[u8]
 // 3, 4, 5, 6, 19 of a setup that is to be written to a buffer of `room` bytes.
 #[tactic(
     auto,
-    using(terms::proofs::RefusalLaws::stops, terms::proofs::RefusalLaws::goes_on),
+    using(terms::proofs::RefusalLaws::stops, terms::proofs::RefusalLaws::goes_on, crate::proofs::SetupLaws::limits_small),
     unfolding(crate::specs::Setup::setup_write_refusal)
 )]
 fn setup_write_refusal(most: u32, kind: u32, size: u32, starts: &[u8], room: usize) -> Result<(), Refusal>
@@ -189,6 +189,7 @@ fn setup_write_refusal(most: u32, kind: u32, size: u32, starts: &[u8], room: usi
 }
 
 // Writes a setup of as many processes as start bytes are lent, over the buffer's first bytes.
+#[tactic(auto, using(crate::proofs::SetupLaws::writes_small))]
 pub fn write_setup(kind: u32, size: u32, delta: u16, starts: &[u8], buffer: &mut [u8]) -> Written
     ensures { WroteSetup most_processes kind size delta starts.now buffer.old (numbered result) buffer.new }
 {
