@@ -105,11 +105,11 @@ fn head_refusal(most: u32, trace: &[u8]) -> Result<(), Refusal>
     if trace.len() < 8 {
         return Err(Refusal::SetupCut);
     }
-    if trace[0] != MARK[0] || trace[1] != MARK[1] {
+    if [trace[0], trace[1]] != MARK {
         return Err(Refusal::SetupMark);
     }
     let n = usize::from(trace[3]);
-    setup_limits(most, trace[2] as u32, n, trace[4] as u32, trace[5] as u32)?;
+    setup_limits(most, u32::from(trace[2]), n, u32::from(trace[4]), u32::from(trace[5]))?;
     if trace.len() < 8 + n {
         return Err(Refusal::SetupCut);
     }
