@@ -7,8 +7,8 @@ use Prim.Native.Nat.{ℕ, zero, suc, ◌+◌, ◌-◌, ◌≤◌, ◌<◌}
 use native.Mathlib.Nat.{zero-add}
 use native.Mathlib.Omega.{arith}
 use borrow.Author.Tests.{ltb-false, leb-false, eqb-true, le-ltb, lt-leb, eq-eqb, not-false}
-use lib.ListN.{length, get_or, drop, replicate, length-append, length-take, length-drop, length-replicate, get_or-append}
-use lib.Seq.{get_or-take, get_or-drop, get_or-append-add}
+use lib.ListN.{length, get_or, drop, replicate, take, length-append, length-take, length-drop, length-replicate, get_or-append}
+use lib.Seq.{take_all, get_or-take, get_or-drop, get_or-append-add}
 use lib.Dec.{ltb}
 use Rattle.std.specs.Prelude.{Result, Ok, Err}
 use Rattle.std.specs.List.{list_any}
@@ -70,6 +70,9 @@ module _ (κ : Kind) (n size spare : ℕ) where
   pub starts_rule : (i : ℕ) (s : List ℕ) → any_from i (bad_start κ n size spare) s ≡ list_any (no_start (proposes κ) size) s
   starts_rule i [] = refl
   starts_rule i (x ∷ xs) = rw (← start_rule n size spare i x κ, starts_rule (suc i) xs)
+
+  pub all_starts : (s : List ℕ) (i : ℕ) → length s ≤ i → any_from 0 (bad_start κ n size spare) s ≡ list_any (no_start (proposes κ) size) (take i s)
+  all_starts s i h = rw take_all (starts_rule 0 s)
 
 -- LIMITS
 

@@ -60,7 +60,7 @@ fn is_no_start(proposal: bool, size: u8, x: u8) -> bool
 }
 
 // Whether some byte of s is no start byte. It stops at none, and asks for the kind only once, so that many are looked at at once.
-#[tactic(auto, using(std::proofs::lemmas::List::Folds::list_any_more, crate::proofs::SetupLaws::starts_rule))]
+#[tactic(auto, using(std::proofs::lemmas::List::Folds::list_any_more, crate::proofs::SetupLaws::all_starts))]
 fn any_bad_start(kind: Kind, size: u8, spare: u8, s: &[u8]) -> bool
     ensures { result ≡ any_bad_start kind size spare s.now }
 {
