@@ -14,7 +14,7 @@ use Rattle.std.specs.Prelude.{Result, Ok, Err}
 use Rattle.std.specs.List.{list_any}
 use Rattle.std.specs.Result.{result_unwrap_or}
 use Rattle.terms.specs.Limits.{most_slots}
-use Rattle.terms.specs.Little.{AllBytes}
+use Rattle.terms.specs.Little.{little_of, AllBytes}
 use Rattle.terms.specs.Refusal.{any_from, if_accepted, number}
 use Rattle.terms.specs.declared.Refusal.{Refusal}
 use Rattle.terms.proofs.RefusalLaws.{if_refused, then_both, passed, refuse-false, both_false, not_outside, inside, ok_is_no_error, some_number}
@@ -154,6 +154,9 @@ module _ (most : ℕ) (s : List ℕ) where
   unfolding setup_refusal
   said_setup a = simp (said_head a.head, a.good)
 
+  pub accepted_small : 0 ≡ setup_refusal most s → (setup_refusal most s ≡ 0) × (8 ≤ length s) × (8 + byte 3 s ≤ length s) × (byte 3 s ≤ most)
+  accepted_small h = let a = setup_said (sym h) in (sym h, a.head.eight, a.head.whole, a.head.limits.few)
+
 -- what is read and what is left, by the refusal
 module _ (most : ℕ) (s : List ℕ) where
   pub setup_accepted : setup_refusal most s ≡ 0 → Ok (setup_fields most s) ≡ setup_read most s
@@ -167,8 +170,10 @@ module _ (most : ℕ) (s : List ℕ) where
   pub unset : (e : Refusal) → number e ≡ setup_refusal most s → Err (number e) ≡ setup_read most s
   unset e h = setup_refused (number e) (sym h) (some_number e)
 
-  pub set_up : (x : Setup) → 0 ≡ setup_refusal most s → x ≡ setup_fields most s → Ok x ≡ setup_read most s
-  set_up x h e = ap Ok e ∙ setup_accepted (sym h)
+  pub set_up : (κ : Kind) (d : ℕ) (l : List ℕ) → 0 ≡ setup_refusal most s
+      → κ ≡ kind_of (byte 2 s) → d ≡ little_of (byte 6 s ∷ byte 7 s ∷ []) → l ≡ places most (start_bytes s)
+      → Ok (record { kind = κ; processes = byte 3 s; size = byte 4 s; delta = d; starts = l }) ≡ setup_read most s
+  set_up κ d l h p q r = simp (p, q, r) (setup_accepted (sym h))
 
   pub rest_accepted : setup_refusal most s ≡ 0 → (setup_rest most s ≡ drop (8 + byte 3 s) s) × (rest_start most s ≡ 8 + byte 3 s)
   unfolding setup_rest rest_start

@@ -1,11 +1,11 @@
 // The setup record: mark, kind, n, ℓ or b, a zero byte, Δ, and n start bytes. 8 + n bytes.
 #![tactic(auto, using(terms::proofs::RefusalLaws::stops, terms::proofs::RefusalLaws::goes_on))]
 
-ghost use Rattle.std.specs.Prelude.{◌≡◌, ◌+◌};
+ghost use Rattle.std.specs.Prelude.{◌≡◌, ◌+◌, ◌≤◌, length};
 ghost use Rattle.terms.specs.Limits.{most_processes};
 ghost use Rattle.terms.specs.Refusal.{refusal_in, numbered};
 ghost use Rattle.setups.specs.Setup.{out_of_limits, bad_size, proposes, no_start, any_bad_start, setup_limits, start_refusal};
-ghost use Rattle.setups.specs.Setup.{head_refusal, setup_refusal, setup_read, setup_rest, rest_start, setup_write_refusal, WroteSetup};
+ghost use Rattle.setups.specs.Setup.{head_refusal, setup_refusal, places, setup_read, setup_rest, rest_start, setup_write_refusal, WroteSetup};
 
 use kinds::Kind;
 use records::Written;
@@ -130,25 +130,33 @@ fn setup_refusal(most: u32, trace: &[u8]) -> Result<(), Refusal>
     start_refusal(kind, trace[4], trace[5], &trace[8..8 + usize::from(trace[3])])
 }
 
+// The start bytes in their places, 0 in those beyond them.
+fn places(starts: &[u8]) -> [u8; PLACES]
+    requires { length starts.now ≤ most_processes }
+    ensures { result ≡ places most_processes starts.now }
+{
+    let mut places = [0; PLACES];
+    places[..starts.len()].copy_from_slice(starts);
+    places
+}
+
 // The setup that a trace begins with.
 #[tactic(
     auto,
-    using(crate::proofs::SetupLaws::unset, crate::proofs::SetupLaws::set_up),
-    unfolding(crate::specs::Setup::setup_refusal)
+    using(crate::proofs::SetupLaws::unset, crate::proofs::SetupLaws::accepted_small),
+    unfolding(crate::specs::Setup::setup_read)
 )]
 pub fn read_setup(trace: &[u8]) -> Result<Setup, Refusal>
     ensures { numbered result ≡ setup_read most_processes trace.now }
 {
     setup_refusal(Trace::PROCESSES, trace)?;
-    let given = &trace[8..8 + usize::from(trace[3])];
-    let mut starts = [0; PLACES];
-    starts[..given.len()].copy_from_slice(given);
+    let end = 8 + usize::from(trace[3]);
     Ok(Setup {
         kind: kinds::kind_of(u32::from(trace[2])),
         processes: trace[3],
         size: trace[4],
         delta: terms::u16_of(trace[6], trace[7]),
-        starts,
+        starts: places(&trace[8..end]),
     })
 }
 
