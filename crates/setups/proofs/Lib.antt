@@ -1,4 +1,3 @@
 pub mod SetupLaws
-pub mod Outcomes
 pub mod RoundTrip
 pub mod Settled

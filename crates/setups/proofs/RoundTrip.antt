@@ -8,15 +8,16 @@ use Prim.Native.Nat.{ℕ, ◌+◌, ◌≤◌, ◌<◌}
 use native.Mathlib.Omega.{arith}
 use lib.ListN.{length, take, drop, replicate, length-append}
 use lib.Seq.{take-append_seam, drop-append_seam, take-add, take_at, drop-drop}
+use Rattle.std.specs.Prelude.{Result, Ok}
 use Rattle.terms.specs.Little.{little_of, AllBytes}
 use Rattle.terms.proofs.LittleLaws.{little_of_bytes, little_bytes_of}
 use Rattle.terms.proofs.Parts.{elements, take-elements}
-use Rattle.kinds.specs.Kinds.{kind_of}
-use Rattle.records.specs.declared.Written.{Written}
+use Rattle.terms.proofs.RefusalLaws.{inside}
+use Rattle.kinds.specs.Kinds.{last_kind, kind_of, number_of}
+use Rattle.kinds.proofs.KindLaws.{number_of_kind}
 use Rattle.records.specs.Record.{byte}
 use Rattle.records.proofs.RecordLaws.{byte_small, wrote_whole, wrote_said}
 use Rattle.setups.specs.declared.Setup.{Setup}
-use Rattle.setups.specs.declared.SetupRead.{SetupRead}
 use Rattle.setups.specs.Setup.{any_bad_start, setup_refusal, setup_read, setup_rest, rest_start, setup_head, setup_bytes}
 use Rattle.setups.specs.Setup.{WroteSetup, setup_fields, start_bytes, places}
 use Rattle.setups.proofs.SetupLaws.{Limits, limits_size, Head, AcceptedSetup, setup_said, said_setup, setup_accepted, rest_accepted}
@@ -25,7 +26,7 @@ use Rattle.setups.proofs.SetupLaws.{start_count, WritableSetup, setup_write_said
 -- the setup that a writer is given
 abbrev pub given : ℕ → ℕ → ℕ → ℕ → List ℕ → Setup
 given most kind size delta starts =
-    record { kind = kind; processes = length starts; size = size; delta = delta; starts = places most starts }
+    record { kind = kind_of kind; processes = length starts; size = size; delta = delta; starts = places most starts }
 
 length-setup_bytes : (kind size delta : ℕ) (starts : List ℕ) → length (setup_bytes kind size delta starts) ≡ 8 + length starts
 length-setup_bytes kind size delta starts = omega arith
@@ -50,7 +51,7 @@ module _ (most kind size delta : ℕ) (starts rest : List ℕ) where
         } in
         said_setup most trace (record { head = head; good = rw same good })
 
-    pub setup_back : delta < 65_536 → setup_read most trace ≡ record { refusal = 0; setup = given most kind size delta starts }
+    pub setup_back : delta < 65_536 → setup_read most trace ≡ Ok (given most kind size delta starts)
     setup_back h = sym (setup_accepted most trace accepted) ∙ simp (little_of_bytes 2 delta h, same)
 
     pub rest_back : (setup_rest most trace ≡ rest) × (rest_start most trace ≡ 8 + length starts)
@@ -59,9 +60,9 @@ module _ (most kind size delta : ℕ) (starts rest : List ℕ) where
         (r.0 ∙ sym (drop-drop (length starts) 8 trace) ∙ drop-append_seam starts rest, r.1)
 
 -- from the writer's own promise, over any buffer
-module _ (most kind size delta : ℕ) (starts before after : List ℕ) (r : Written)
+module _ (most kind size delta : ℕ) (starts before after : List ℕ) (r : Result ℕ ℕ)
     (w : WroteSetup most kind size delta starts before r after)
-    (ok : r.refusal ≡ 0) where
+    {n : ℕ} (ok : r ≡ Ok n) where
   writable : WritableSetup most kind size starts (length before)
   writable = setup_write_said _ kind size starts (length before) (wrote_said _ _ _ _ _ w ok).0
 
@@ -70,7 +71,7 @@ module _ (most kind size delta : ℕ) (starts before after : List ℕ) (r : Writ
       (wrote_said _ _ _ _ _ w ok).1
       ∙ ap (λ (n : ℕ). setup_bytes kind size delta starts ++ drop n before) (length-setup_bytes kind size delta starts)
 
-  pub written_setup_back : delta < 65_536 → setup_read most after ≡ record { refusal = 0; setup = given most kind size delta starts }
+  pub written_setup_back : delta < 65_536 → setup_read most after ≡ Ok (given most kind size delta starts)
   written_setup_back h = ap (setup_read most) laid ∙ setup_back most kind size delta starts _ writable.limits writable.good h
 
   pub written_rest_back : (setup_rest most after ≡ drop (8 + length starts) before) × (rest_start most after ≡ 8 + length starts)
@@ -98,16 +99,16 @@ module _ (most : ℕ) (s : List ℕ) (bytes : AllBytes s) (ok : setup_refusal mo
   starts_again : take (byte 3 s) (places most (start_bytes s)) ≡ start_bytes s
   starts_again = take_at (start_bytes s) (drop (length (start_bytes s)) (replicate most 0)) (byte 3 s) (start_count s known.head.whole)
 
-  fields : (setup_read most s).setup ≡ setup_fields most s
-  fields = ap (λ (x : SetupRead). x.setup) (sym (setup_accepted most s ok))
+  kind_again : number_of (kind_of (byte 2 s)) ≡ byte 2 s
+  kind_again = let l = known.head.limits in number_of_kind (byte 2 s) (inside 1 last_kind (byte 2 s) l.kind_low l.kind_high)
 
-  pub setup_again : let t = (setup_read most s).setup in setup_bytes t.kind t.size t.delta (take t.processes t.starts) ≡ take (8 + t.processes) s
-  setup_again = simp (fields, starts_again) bytes_again
+  pub setup_again : let t = setup_fields most s in setup_bytes (number_of t.kind) t.size t.delta (take t.processes t.starts) ≡ take (8 + t.processes) s
+  setup_again = simp (kind_again, starts_again) bytes_again
 
   -- from the writer's own promise, over any buffer that has room
-  module _ (before after : List ℕ) (r : Written) (room : 8 + byte 3 s ≤ length before)
-      (w : let t = (setup_read most s).setup in
-      WroteSetup most t.kind t.size t.delta (take t.processes t.starts) before r after) where
+  module _ (before after : List ℕ) (r : Result ℕ ℕ) (room : 8 + byte 3 s ≤ length before)
+      (w : let t = setup_fields most s in
+      WroteSetup most (number_of t.kind) t.size t.delta (take t.processes t.starts) before r after) where
     -- the number of start bytes is n, and byte 5 is 0
     writes : WritableSetup most (byte 2 s) (byte 4 s) (start_bytes s) (length before)
     writes =
@@ -126,11 +127,11 @@ module _ (most : ℕ) (s : List ℕ) (bytes : AllBytes s) (ok : setup_refusal mo
           fits = omega arith;
         }
 
-    pub setup_rewritten : (r ≡ record { refusal = 0; len = 8 + byte 3 s }) × (after ≡ take (8 + byte 3 s) s ++ drop (8 + byte 3 s) before)
+    pub setup_rewritten : (r ≡ Ok (8 + byte 3 s)) × (after ≡ take (8 + byte 3 s) s ++ drop (8 + byte 3 s) before)
     setup_rewritten =
         let rec : List ℕ = setup_bytes (byte 2 s) (byte 4 s) delta (start_bytes s) in
         let count : length rec ≡ 8 + byte 3 s = omega (arith, start_count s known.head.whole) in
-        let p = wrote_whole _ rec before r after (simp (fields, starts_again) at w) (said_setup_write _ _ _ _ _ writes) in (
+        let p = wrote_whole _ rec before r after (simp (kind_again, starts_again) at w) (said_setup_write _ _ _ _ _ writes) in (
           p.0 ∙ rw count,
           p.1 ∙ ap (λ (n : ℕ). rec ++ drop n before) count ∙ ap (λ (l : List ℕ). l ++ drop (8 + byte 3 s) before) bytes_again,
         )

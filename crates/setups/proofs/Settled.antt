@@ -4,6 +4,7 @@ use mathlib.Core.Path.{◌≡◌, refl, sym, ◌∙◌}
 use contract.Lifetimes.{Lfts}
 use denote.Triple.Clauses.{Lasts, at_exit}
 use borrow.Fn.Kinds.{Dens, res_t, ended_of}
+use Rattle.terms.proofs.RefusalLaws.{numbers_settle}
 use Rattle.terms.proofs.Settles.{Settles}
 use Rattle.setups.proofs.read_setup.Kinds as read_setup_kinds
 use Rattle.setups.proofs.read_setup.Reads as read_setup
@@ -13,10 +14,10 @@ use Rattle.setups.proofs.write_setup.Kinds as write_setup_kinds
 use Rattle.setups.proofs.write_setup.Reads as write_setup
 
 pub read_setup_settles : Settles 1 read_setup_kinds.ps read_setup_kinds.r read_setup.Post
-read_setup_settles κs a x y u v p q = (p ∙ sym q, refl)
+read_setup_settles κs a x y u v p q = (numbers_settle x y (p ∙ sym q), refl)
 
 pub write_setup_settles : Settles 2 write_setup_kinds.ps write_setup_kinds.r write_setup.Post
-write_setup_settles κs a x y u v p q = let e = p.buffer ∙ sym q.buffer in (p.answer ∙ sym q.answer, (λ k. (tt, (tt, (tt, (tt, (e k, tt)))))))
+write_setup_settles κs a x y u v p q = let e = p.buffer ∙ sym q.buffer in (numbers_settle x y (p.answer ∙ sym q.answer), (λ k. (tt, (tt, (tt, (tt, (e k, tt)))))))
 
 -- A returned part has a place (its one machine value), its bytes, and a name under which proofs keep track of them. A new part gets a new name,
 -- which no promise can settle; the place and the bytes are settled (the exception in docs/DECISIONS.md).

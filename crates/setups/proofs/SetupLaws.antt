@@ -7,19 +7,23 @@ use Prim.Native.Nat.{ℕ, zero, suc, ◌+◌, ◌-◌, ◌≤◌, ◌<◌}
 use native.Mathlib.Nat.{zero-add}
 use native.Mathlib.Omega.{arith}
 use borrow.Author.Tests.{ltb-false, leb-false, eqb-true, le-ltb, lt-leb, eq-eqb, not-false}
-use lib.ListN.{length, get_or, drop, replicate, length-append, length-take, length-drop, length-replicate, get_or-append}
-use lib.Seq.{get_or-take, get_or-drop, get_or-append-add}
+use lib.ListN.{length, get_or, drop, replicate, take, length-append, length-take, length-drop, length-replicate, get_or-append}
+use lib.Seq.{take_all, get_or-take, get_or-drop, get_or-append-add}
 use lib.Dec.{ltb}
+use Rattle.std.specs.Prelude.{Result, Ok, Err}
+use Rattle.std.specs.List.{list_any}
+use Rattle.std.specs.Result.{result_unwrap_or}
 use Rattle.terms.specs.Limits.{most_slots}
-use Rattle.terms.specs.Little.{AllBytes}
-use Rattle.terms.specs.Refusal.{any_from}
-use Rattle.terms.proofs.RefusalLaws.{if_refused, then_both, passed, refuse-false, both_false, not_outside, inside}
+use Rattle.terms.specs.Little.{little_of, AllBytes}
+use Rattle.terms.specs.Refusal.{any_from, if_accepted, number}
+use Rattle.terms.specs.declared.Refusal.{Refusal}
+use Rattle.terms.proofs.RefusalLaws.{if_refused, then_both, passed, refuse-false, both_false, not_outside, inside, ok_is_no_error, some_number}
 use Rattle.kinds.specs.declared.Kind.{Kind}
 use Rattle.kinds.specs.Kinds.{last_kind, kind_of}
 use Rattle.records.specs.Record.{byte}
 use Rattle.setups.specs.Setup.{setup_mark, out_of_limits, bad_size, bad_start, proposes, no_start, any_bad_start, setup_limits, head_refusal, start_bytes}
-use Rattle.setups.specs.Setup.{places, setup_fields, no_setup, setup_refusal, setup_read, setup_rest, rest_start, setup_write_refusal}
-use Rattle.setups.specs.declared.SetupRead.{SetupRead}
+use Rattle.setups.specs.Setup.{places, setup_fields, setup_refusal, setup_read, setup_rest, rest_start, setup_write_refusal}
+use Rattle.setups.specs.declared.Setup.{Setup}
 use Rattle.records.proofs.RecordLaws.{marked_said, byte_small, none_bad, all_good}
 
 -- BY KIND
@@ -61,14 +65,14 @@ module _ (n size spare j x : ℕ) where
   start_rule Kind.Plain = refl
   start_rule Kind.Fast = refl
 
--- as the code asks of a list of start bytes
-abbrev pub any_no_start : Bool → ℕ → ℕ → List ℕ → Bool
-any_no_start proposal size i s = any_from i (λ j x. no_start proposal size x) s
-
+-- the code asks by the rule alone, the table also by the index
 module _ (κ : Kind) (n size spare : ℕ) where
-  pub starts_rule : (i : ℕ) (s : List ℕ) → any_no_start (proposes κ) size i s ≡ any_from i (bad_start κ n size spare) s
+  pub starts_rule : (i : ℕ) (s : List ℕ) → any_from i (bad_start κ n size spare) s ≡ list_any (no_start (proposes κ) size) s
   starts_rule i [] = refl
-  starts_rule i (x ∷ xs) = rw (start_rule n size spare i x κ, starts_rule (suc i) xs)
+  starts_rule i (x ∷ xs) = rw (← start_rule n size spare i x κ, starts_rule (suc i) xs)
+
+  pub all_starts : (s : List ℕ) (i : ℕ) → length s ≤ i → any_from 0 (bad_start κ n size spare) s ≡ list_any (no_start (proposes κ) size) (take i s)
+  all_starts s i h = rw take_all (starts_rule 0 s)
 
 -- LIMITS
 
@@ -93,6 +97,9 @@ module _ (most kind n size spare : ℕ) where
 
   pub limits_size : Limits most kind n size spare → (1 ≤ size) × (size ≤ most_slots) × (spare ≡ 0)
   limits_size l = size_said (kind_of kind) n size spare l.sized
+
+  pub limits_small : 0 ≡ setup_limits most kind n size spare → (setup_limits most kind n size spare ≡ 0) × (size ≤ most_slots)
+  limits_small h = (sym h, (limits_size (limits_said (sym h))).1)
 
 -- READING
 
@@ -147,15 +154,26 @@ module _ (most : ℕ) (s : List ℕ) where
   unfolding setup_refusal
   said_setup a = simp (said_head a.head, a.good)
 
+  pub accepted_small : 0 ≡ setup_refusal most s → (setup_refusal most s ≡ 0) × (8 ≤ length s) × (8 + byte 3 s ≤ length s) × (byte 3 s ≤ most)
+  accepted_small h = let a = setup_said (sym h) in (sym h, a.head.eight, a.head.whole, a.head.limits.few)
+
 -- what is read and what is left, by the refusal
 module _ (most : ℕ) (s : List ℕ) where
-  pub setup_accepted : setup_refusal most s ≡ 0 → record { refusal = 0; setup = setup_fields most s } ≡ setup_read most s
+  pub setup_accepted : setup_refusal most s ≡ 0 → Ok (setup_fields most s) ≡ setup_read most s
   unfolding setup_read
   setup_accepted e = simp e
 
-  pub setup_refused : (k : ℕ) → setup_refusal most s ≡ k → (k ≡ 0 → ⊥) → record { refusal = k; setup = no_setup most } ≡ setup_read most s
+  pub setup_refused : (k : ℕ) → setup_refusal most s ≡ k → (k ≡ 0 → ⊥) → Err k ≡ setup_read most s
   unfolding setup_read
   setup_refused k e h = simp (e, if_refused k h)
+
+  pub unset : (e : Refusal) → number e ≡ setup_refusal most s → Err (number e) ≡ setup_read most s
+  unset e h = setup_refused (number e) (sym h) (some_number e)
+
+  pub set_up : (κ : Kind) (d : ℕ) (l : List ℕ) → 0 ≡ setup_refusal most s
+      → κ ≡ kind_of (byte 2 s) → d ≡ little_of (byte 6 s ∷ byte 7 s ∷ []) → l ≡ places most (start_bytes s)
+      → Ok (record { kind = κ; processes = byte 3 s; size = byte 4 s; delta = d; starts = l }) ≡ setup_read most s
+  set_up κ d l h p q r = simp (p, q, r) (setup_accepted (sym h))
 
   pub rest_accepted : setup_refusal most s ≡ 0 → (setup_rest most s ≡ drop (8 + byte 3 s) s) × (rest_start most s ≡ 8 + byte 3 s)
   unfolding setup_rest rest_start
@@ -165,14 +183,24 @@ module _ (most : ℕ) (s : List ℕ) where
   unfolding setup_rest rest_start
   rest_refused k e h = (simp (e, if_refused k h), simp (e, if_refused k h))
 
-  -- of what a reader answered: its refusal is the table's, and where that is 0 its fields are the setup's
-  module _ (r : SetupRead) (e : r ≡ setup_read most s) where
-    pub setup_refusal_read : setup_refusal most s ≡ r.refusal
-    unfolding setup_read
-    setup_refusal_read = sym (ap (λ (x : SetupRead). x.refusal) e)
+  -- of what a reader answered: a setup is the trace's, and the table accepts; a refusal is the table's
+  pub setup_read_ok : (x : Setup) → Ok x ≡ setup_read most s → (setup_refusal most s ≡ 0) × (x ≡ setup_fields most s)
+  unfolding setup_read
+  setup_read_ok x = by (setup_refusal most s)
+    where
+      by : (k : ℕ) → Ok x ≡ if_accepted k (Ok (setup_fields most s)) (Err k) → (k ≡ 0) × (x ≡ setup_fields most s)
+      by zero e = (refl, ap (λ r. result_unwrap_or r x) e)
+      by (suc k) e = absurd (ok_is_no_error e)
 
-    pub setup_fields_read : r.refusal ≡ 0 → r.setup ≡ setup_fields most s
-    setup_fields_read h = ap (λ (x : SetupRead). x.setup) (e ∙ sym (setup_accepted (setup_refusal_read ∙ h)))
+  pub setup_read_err : (k : ℕ) → Err k ≡ setup_read most s → (setup_refusal most s ≡ k) × (k ≡ 0 → ⊥)
+  unfolding setup_read
+  setup_read_err k = by (setup_refusal most s)
+    where
+      by : (j : ℕ) → Err k ≡ if_accepted j (Ok (setup_fields most s)) (Err j) → (j ≡ k) × (k ≡ 0 → ⊥)
+      by zero e = absurd (ok_is_no_error (sym e))
+      by (suc j) e =
+          let same : k ≡ suc j = ap (λ r. elim r [ Ok x ↦ 0 | Err k ↦ k ]) e in
+          (sym same, λ h. omega (arith, same))
 
 -- START BYTES
 
@@ -245,3 +273,8 @@ module _ (most kind size : ℕ) (starts : List ℕ) (room : ℕ) where
   pub said_setup_write : WritableSetup most kind size starts room → setup_write_refusal most kind size starts room ≡ 0
   unfolding setup_write_refusal
   said_setup_write w = simp (said_limits _ _ _ _ _ w.limits, w.good, le-ltb _ _ w.fits)
+
+  pub writes_small : 0 ≡ setup_write_refusal most kind size starts room → (setup_write_refusal most kind size starts room ≡ 0) × (kind ≤ last_kind) × (length starts ≤ most) × (size ≤ most_slots) × (8 + length starts ≤ room)
+  writes_small h =
+      let w = setup_write_said (sym h) in
+      (sym h, w.limits.kind_high, w.limits.few, (limits_size _ _ _ _ _ w.limits).1, w.fits)

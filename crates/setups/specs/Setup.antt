@@ -1,16 +1,13 @@
 -- The setup record of a trace (01, "The trace"), and what is refused of it, in 01's order. `most` is the most processes.
-use Rattle.std.specs.Prelude.{Bool, true, false, not, cond, ◌||◌, List, [], ◌∷◌, ◌++◌, ℕ, ◌+◌, length, take, drop, replicate, leb, ltb, eqb}
+use Rattle.std.specs.Prelude.{Bool, true, false, not, cond, ◌||◌, List, [], ◌∷◌, ◌++◌, ℕ, ◌+◌, length, take, drop, replicate, leb, ltb, eqb, Result, Ok, Err}
 use Rattle.terms.specs.Limits.{most_slots}
 use Rattle.terms.specs.Refusal.{refuse, ◌then◌, outside, any_from, if_accepted}
 use Rattle.terms.specs.Little.{little_of, little_bytes}
 use Rattle.terms.specs.Overlay.{overlay}
 use Rattle.kinds.specs.declared.Kind.{Kind}
 use Rattle.kinds.specs.Kinds.{last_kind, bad_kind, kind_of}
-use Rattle.records.specs.declared.Written.{Written}
 use Rattle.records.specs.Record.{byte, marked, Wrote}
 use Rattle.setups.specs.declared.Setup.{Setup}
-use Rattle.setups.specs.declared.SetupRead.{SetupRead}
-use Rattle.setups.specs.declared.StartsRead.{StartsRead}
 
 abbrev pub setup_mark : List ℕ
 setup_mark = 0x4F ∷ 0x53 ∷ []
@@ -81,30 +78,19 @@ setup_refusal most s = head_refusal most s then start_refusal (kind_of (byte 2 s
 abbrev pub places : ℕ → List ℕ → List ℕ
 places most starts = overlay starts (replicate most 0)
 
--- what is answered of the start bytes alone: 6, or the places
-abbrev pub starts_of : ℕ → Kind → ℕ → ℕ → List ℕ → StartsRead
-starts_of most kind size spare starts =
-    record {
-      refusal = start_refusal kind size spare starts;
-      places = if_accepted (start_refusal kind size spare starts) (places most starts) (replicate most 0);
-    }
-
 -- where each field stands
 abbrev pub setup_fields : ℕ → List ℕ → Setup
 setup_fields most s =
     record {
-      kind = byte 2 s;
+      kind = kind_of (byte 2 s);
       processes = byte 3 s;
       size = byte 4 s;
       delta = little_of (byte 6 s ∷ byte 7 s ∷ []);
       starts = places most (start_bytes s);
     }
 
-abbrev pub no_setup : ℕ → Setup
-no_setup most = record { kind = 0; processes = 0; size = 0; delta = 0; starts = replicate most 0 }
-
-unfoldable pub setup_read : ℕ → List ℕ → SetupRead
-setup_read most s = record { refusal = setup_refusal most s; setup = if_accepted (setup_refusal most s) (setup_fields most s) (no_setup most) }
+unfoldable pub setup_read : ℕ → List ℕ → Result Setup ℕ
+setup_read most s = if_accepted (setup_refusal most s) (Ok (setup_fields most s)) (Err (setup_refusal most s))
 
 -- where the rest begins: past the setup, on refusal at the beginning; and its bytes, none on refusal
 unfoldable pub rest_start : ℕ → List ℕ → ℕ
@@ -130,6 +116,6 @@ setup_write_refusal most kind size starts room =
     then refuse 19 (ltb room (8 + length starts))
 
 -- what the writer answers, and the buffer before and after
-abbrev pub WroteSetup : ℕ → ℕ → ℕ → ℕ → List ℕ → List ℕ → Written → List ℕ → Type 0
+abbrev pub WroteSetup : ℕ → ℕ → ℕ → ℕ → List ℕ → List ℕ → Result ℕ ℕ → List ℕ → Type 0
 WroteSetup most kind size delta starts before r after =
     Wrote (setup_write_refusal most kind size starts (length before)) (setup_bytes kind size delta starts) before r after

@@ -1,14 +1,15 @@
 // The setup record: mark, kind, n, ℓ or b, a zero byte, Δ, and n start bytes. 8 + n bytes.
-#![tactic(auto)]
+#![tactic(auto, using(terms::proofs::RefusalLaws::stops, terms::proofs::RefusalLaws::goes_on))]
 
-ghost use Rattle.std.specs.Prelude.{◌≡◌, ◌||◌, ◌+◌, ◌≤◌, length};
+ghost use Rattle.std.specs.Prelude.{◌≡◌, ◌+◌, ◌≤◌, length};
 ghost use Rattle.terms.specs.Limits.{most_processes};
-ghost use Rattle.setups.specs.Setup.{out_of_limits, bad_size, proposes, no_start, any_bad_start, setup_limits, head_refusal};
-ghost use Rattle.setups.specs.Setup.{starts_of, no_setup, setup_read, setup_rest, rest_start, setup_write_refusal, WroteSetup};
+ghost use Rattle.terms.specs.Refusal.{refusal_in, numbered};
+ghost use Rattle.setups.specs.Setup.{out_of_limits, bad_size, proposes, no_start, any_bad_start, setup_limits, start_refusal};
+ghost use Rattle.setups.specs.Setup.{head_refusal, setup_refusal, places, setup_read, setup_rest, rest_start, setup_write_refusal, WroteSetup};
 
 use kinds::Kind;
 use records::Written;
-use terms::Trace;
+use terms::{Refusal, Trace};
 
 const MARK: [u8; 2] = [0x4F, 0x53];
 
@@ -16,32 +17,13 @@ const MARK: [u8; 2] = [0x4F, 0x53];
 pub const PLACES: usize = Trace::PROCESSES as usize;
 
 // `size` is ℓ in kind 1 and b in the others; `starts` has 0 in the places beyond `processes`.
-#[derive(Clone, Copy)]
+#[derive(Clone, Copy, Debug, PartialEq, Eq)]
 pub struct Setup {
-    pub kind: u8,
+    pub kind: Kind,
     pub processes: u8,
     pub size: u8,
     pub delta: u16,
     pub starts: [u8; PLACES],
-}
-
-// A setup, or the number of its refusal with every field 0.
-#[derive(Clone, Copy)]
-pub struct SetupRead {
-    pub refusal: u32,
-    pub setup: Setup,
-}
-
-fn wide(x: u8) -> usize
-    ensures { result ≡ x }
-{
-    x as usize
-}
-
-fn number(x: u8) -> u32
-    ensures { result ≡ x }
-{
-    x as u32
 }
 
 // BY KIND: 5 and 6
@@ -50,33 +32,22 @@ fn number(x: u8) -> u32
 fn is_out_of_limits(size: u32, spare: u32) -> bool
     ensures { result ≡ out_of_limits size spare }
 {
-    if size < 1 {
-        return true;
-    }
-    if Trace::SLOTS < size {
-        return true;
-    }
-    spare != 0
+    !(1..=Trace::SLOTS).contains(&size) || spare != 0
 }
 
+#[tactic(auto, unfolding(crate::specs::Setup::bad_size))]
 fn is_bad_size(kind: Kind, n: usize, size: u32, spare: u32) -> bool
     ensures { result ≡ bad_size kind n size spare }
 {
     match kind {
-        Kind::Lock => is_out_of_limits(size, spare),
-        Kind::Plain => is_out_of_limits(size, spare),
-        Kind::Fast => is_out_of_limits(size, spare),
+        Kind::Lock | Kind::Plain | Kind::Fast => is_out_of_limits(size, spare),
     }
 }
 
 fn is_proposing(kind: Kind) -> bool
     ensures { result ≡ proposes kind }
 {
-    match kind {
-        Kind::Lock => false,
-        Kind::Plain => true,
-        Kind::Fast => true,
-    }
+    matches!(kind, Kind::Plain | Kind::Fast)
 }
 
 fn is_no_start(proposal: bool, size: u8, x: u8) -> bool
@@ -88,198 +59,153 @@ fn is_no_start(proposal: bool, size: u8, x: u8) -> bool
     size <= x
 }
 
-fn either(a: bool, b: bool) -> bool
-    ensures { result ≡ (a || b) }
-{
-    a | b
-}
-
 // Whether some byte of s is no start byte. It stops at none, and asks for the kind only once, so that many are looked at at once.
+#[tactic(auto, using(std::proofs::lemmas::List::Folds::list_any_more, crate::proofs::SetupLaws::all_starts))]
 fn any_bad_start(kind: Kind, size: u8, spare: u8, s: &[u8]) -> bool
     ensures { result ≡ any_bad_start kind size spare s.now }
 {
     let proposal = is_proposing(kind);
     let mut bad = false;
-    let mut i = 0;
-    while i < s.len() {
-        bad = either(bad, is_no_start(proposal, size, s[i]));
-        i += 1;
+    for &x in s {
+        bad |= is_no_start(proposal, size, x);
     }
     bad
 }
 
 // 3, 4 and 5: what the reader and the writer ask alike.
-fn setup_limits(most: u32, kind: u32, n: usize, size: u32, spare: u32) -> u32
-    ensures { result ≡ setup_limits most kind n size spare }
+fn setup_limits(most: u32, kind: u32, n: usize, size: u32, spare: u32) -> Result<(), Refusal>
+    ensures { refusal_in result ≡ setup_limits most kind n size spare }
 {
-    if kinds::is_bad_kind(kinds::LAST, kind) {
-        return 3;
+    let kind = Kind::try_from(kind)?;
+    if !(1..=most as usize).contains(&n) {
+        return Err(Refusal::Processes);
     }
-    if n < 1 {
-        return 4;
+    if is_bad_size(kind, n, size, spare) {
+        return Err(Refusal::Size);
     }
-    if (most as usize) < n {
-        return 4;
+    Ok(())
+}
+
+// And 6.
+fn start_refusal(kind: Kind, size: u8, spare: u8, starts: &[u8]) -> Result<(), Refusal>
+    ensures { refusal_in result ≡ start_refusal kind size spare starts.now }
+{
+    if any_bad_start(kind, size, spare, starts) {
+        return Err(Refusal::Start);
     }
-    if is_bad_size(kinds::kind_of(kind), n, size, spare) {
-        return 5;
-    }
-    0
+    Ok(())
 }
 
 // READING
 
 // 1 (8 bytes), 2, 3, 4, 5, 1 (8 + n): all that a setup is refused for but its start bytes.
-fn head_refusal(most: u32, trace: &[u8]) -> u32
-    ensures { result ≡ head_refusal most trace.now }
+fn head_refusal(most: u32, trace: &[u8]) -> Result<(), Refusal>
+    ensures { refusal_in result ≡ head_refusal most trace.now }
 {
     if trace.len() < 8 {
-        return 1;
+        return Err(Refusal::SetupCut);
     }
-    if trace[0] != MARK[0] {
-        return 2;
+    if [trace[0], trace[1]] != MARK {
+        return Err(Refusal::SetupMark);
     }
-    if trace[1] != MARK[1] {
-        return 2;
-    }
-    let n = wide(trace[3]);
-    let no = setup_limits(
-        most,
-        number(trace[2]),
-        n,
-        number(trace[4]),
-        number(trace[5]),
-    );
-    if no != 0 {
-        return no;
-    }
+    let n = usize::from(trace[3]);
+    setup_limits(most, u32::from(trace[2]), n, u32::from(trace[4]), u32::from(trace[5]))?;
     if trace.len() < 8 + n {
-        return 1;
+        return Err(Refusal::SetupCut);
     }
-    0
+    Ok(())
 }
 
-// The start bytes in their places, once each is in its range.
-#[derive(Clone, Copy)]
-struct StartsRead {
-    refusal: u32,
-    places: [u8; PLACES],
-}
-
-fn starts_of(kind: Kind, size: u8, spare: u8, s: &[u8]) -> StartsRead
-    requires { length s.now ≤ most_processes }
-    ensures { result ≡ starts_of most_processes kind size spare s.now }
+// And 6.
+#[tactic(
+    auto,
+    using(terms::proofs::RefusalLaws::stops, terms::proofs::RefusalLaws::goes_on),
+    unfolding(crate::specs::Setup::setup_refusal)
+)]
+fn setup_refusal(most: u32, trace: &[u8]) -> Result<(), Refusal>
+    ensures { refusal_in result ≡ setup_refusal most trace.now }
 {
-    if any_bad_start(kind, size, spare, s) {
-        return StartsRead {
-            refusal: 6,
-            places: [0; PLACES],
-        };
-    }
-    let mut places = [0u8; PLACES];
-    places[..s.len()].copy_from_slice(s);
-    StartsRead { refusal: 0, places }
+    head_refusal(most, trace)?;
+    let kind = kinds::kind_of(u32::from(trace[2]));
+    start_refusal(kind, trace[4], trace[5], &trace[8..8 + usize::from(trace[3])])
 }
 
-impl SetupRead {
-    fn refused(no: u32) -> Self
-        ensures { result ≡ record { refusal = no; setup = no_setup most_processes } }
-    {
-        SetupRead {
-            refusal: no,
-            setup: Setup {
-                kind: 0,
-                processes: 0,
-                size: 0,
-                delta: 0,
-                starts: [0; PLACES],
-            },
-        }
-    }
+// The start bytes in their places, 0 in those beyond them.
+fn places(starts: &[u8]) -> [u8; PLACES]
+    requires { length starts.now ≤ most_processes }
+    ensures { result ≡ places most_processes starts.now }
+{
+    let mut places = [0; PLACES];
+    places[..starts.len()].copy_from_slice(starts);
+    places
 }
 
 // The setup that a trace begins with.
-pub fn read_setup(trace: &[u8]) -> SetupRead
-    ensures { result ≡ setup_read most_processes trace.now }
+#[tactic(
+    auto,
+    using(crate::proofs::SetupLaws::unset, crate::proofs::SetupLaws::accepted_small),
+    unfolding(crate::specs::Setup::setup_read)
+)]
+pub fn read_setup(trace: &[u8]) -> Result<Setup, Refusal>
+    ensures { numbered result ≡ setup_read most_processes trace.now }
 {
-    let no = head_refusal(Trace::PROCESSES, trace);
-    if no != 0 {
-        return SetupRead::refused(no);
-    }
-    let kind = trace[2];
-    let size = trace[4];
-    let end = 8 + wide(trace[3]);
-    let read = starts_of(kinds::kind_of(number(kind)), size, trace[5], &trace[8..end]);
-    let bad = read.refusal;
-    if bad != 0 {
-        return SetupRead::refused(bad);
-    }
-    let starts = read.places;
-    SetupRead {
-        refusal: 0,
-        setup: Setup {
-            kind,
-            processes: trace[3],
-            size,
-            delta: terms::u16_of(trace[6], trace[7]),
-            starts,
-        },
-    }
+    setup_refusal(Trace::PROCESSES, trace)?;
+    let end = 8 + usize::from(trace[3]);
+    Ok(Setup {
+        kind: kinds::kind_of(u32::from(trace[2])),
+        processes: trace[3],
+        size: trace[4],
+        delta: terms::u16_of(trace[6], trace[7]),
+        starts: places(&trace[8..end]),
+    })
 }
 
 // The rest of a trace after its setup; on refusal the empty part at the trace's beginning.
+#[tactic(
+    auto,
+    using(terms::proofs::Parts::part_to_end),
+    unfolding(crate::specs::Setup::setup_refusal, crate::specs::Setup::setup_rest, crate::specs::Setup::rest_start)
+)]
 pub fn setup_rest(trace: &[u8]) -> &[u8]
     ensures bytes { result.now ≡ setup_rest most_processes trace.now }
     ensures place { result.ref_ptr ≡ (trace.entry.ref_ptr.0, rest_start most_processes trace.now + trace.entry.ref_ptr.1) }
 {
-    let read = read_setup(trace);
-    if read.refusal != 0 {
-        return &trace[..0];
+    match setup_refusal(Trace::PROCESSES, trace) {
+        Ok(()) => &trace[8 + usize::from(trace[3])..],
+        Err(_) => &trace[..0],
     }
-    let end = 8 + wide(read.setup.processes);
-    &trace[end..]
 }
 
 // WRITING
 
 // 3, 4, 5, 6, 19 of a setup that is to be written to a buffer of `room` bytes.
-fn setup_write_refusal(most: u32, kind: u32, size: u32, starts: &[u8], room: usize) -> u32
-    ensures { result ≡ setup_write_refusal most kind size starts.now room }
+#[tactic(
+    auto,
+    using(terms::proofs::RefusalLaws::stops, terms::proofs::RefusalLaws::goes_on, crate::proofs::SetupLaws::limits_small),
+    unfolding(crate::specs::Setup::setup_write_refusal)
+)]
+fn setup_write_refusal(most: u32, kind: u32, size: u32, starts: &[u8], room: usize) -> Result<(), Refusal>
+    ensures { refusal_in result ≡ setup_write_refusal most kind size starts.now room }
 {
     let n = starts.len();
-    let no = setup_limits(most, kind, n, size, 0);
-    if no != 0 {
-        return no;
-    }
-    if any_bad_start(kinds::kind_of(kind), size as u8, 0, starts) {
-        return 6;
-    }
+    setup_limits(most, kind, n, size, 0)?;
+    start_refusal(kinds::kind_of(kind), size as u8, 0, starts)?;
     if room < 8 + n {
-        return 19;
+        return Err(Refusal::BufferShort);
     }
-    0
+    Ok(())
 }
 
 // Writes a setup of as many processes as start bytes are lent, over the buffer's first bytes.
+#[tactic(auto, using(crate::proofs::SetupLaws::writes_small))]
 pub fn write_setup(kind: u32, size: u32, delta: u16, starts: &[u8], buffer: &mut [u8]) -> Written
-    ensures { WroteSetup most_processes kind size delta starts.now buffer.old result buffer.new }
+    ensures { WroteSetup most_processes kind size delta starts.now buffer.old (numbered result) buffer.new }
 {
-    let no = setup_write_refusal(Trace::PROCESSES, kind, size, starts, buffer.len());
-    if no != 0 {
-        return Written {
-            refusal: no,
-            len: 0,
-        };
-    }
+    setup_write_refusal(Trace::PROCESSES, kind, size, starts, buffer.len())?;
     let n = starts.len();
-    let d = terms::u16_bytes(delta);
-    let head = [
-        MARK[0], MARK[1], kind as u8, n as u8, size as u8, 0, d[0], d[1],
-    ];
+    let [low, high] = terms::u16_bytes(delta);
+    let head = [MARK[0], MARK[1], kind as u8, n as u8, size as u8, 0, low, high];
     buffer[..8].copy_from_slice(&head);
     buffer[8..8 + n].copy_from_slice(starts);
-    Written {
-        refusal: 0,
-        len: 8 + n,
-    }
+    Ok(8 + n)
 }
