@@ -15,12 +15,11 @@ use Rattle.records.specs.Record.{byte}
 use Rattle.model.specs.declared.Place.{Place}
 use Rattle.model.specs.declared.Row.{Row}
 use Rattle.model.specs.declared.State.{State}
-use Rattle.model.specs.declared.Outcome.{Outcome}
 use Rattle.model.specs.Routine.{Routine, routine}
 use Rattle.model.specs.Sizes.{line_width}
 use Rattle.model.specs.Run.{blank, row_at, Tape, advance, follow, run_on, rest_of, records, shape, run_of, Progress, Progress.going, Progress.stopped}
 use Rattle.model.specs.Claims.{shown}
-use Rattle.model.specs.Report.{shown_of, shown_place, figure_of, line, lines, report_of, outcome_of, ran_of}
+use Rattle.model.specs.Report.{shown_of, shown_place, figure_of, line, lines, report_of, outcome_of, ran_of, Outcome}
 use Rattle.model.proofs.Places.{imply, concluded, inside}
 use Rattle.model.proofs.ReportLaws.{length-lines}
 use Rattle.model.proofs.RunLaws.{going-stopped}

@@ -1,10 +1,11 @@
 -- The report (01, "The trace"), and all that a run returns and leaves.
-use Rattle.std.specs.Prelude.{ℕ, zero, suc, cond, List, [], ◌∷◌, ◌++◌, length, get_or}
+use Rattle.std.specs.Prelude.{ℕ, zero, suc, cond, List, [], ◌∷◌, ◌++◌, length, get_or, Result, Ok, Err}
 use Rattle.terms.specs.Overlay.{overlay}
+use Rattle.terms.specs.Refusal.{number}
 use Rattle.model.specs.declared.Place.{Place}
 use Rattle.model.specs.declared.Shape.{Shape}
 use Rattle.model.specs.declared.Row.{Row}
-use Rattle.model.specs.declared.Outcome.{Outcome}
+use Rattle.model.specs.declared.Refused.{Refused}
 use Rattle.model.specs.Routine.{Routine, routine}
 use Rattle.model.specs.Run.{blank, Progress, Progress.going, Progress.stopped, shape, rest_of, records, run_of}
 
@@ -44,7 +45,11 @@ unfoldable pub report_of : Shape → List ℕ → Progress → List ℕ
 report_of u old (going s) = overlay (lines (routine u) s.rows u.count) old
 report_of u old (stopped x j) = old
 
--- 0 and the count of accepted steps, or the number of the refusal and its record
+-- what a run returns: 0 and the count of accepted steps, or the number of the refusal and its record
+pub record Outcome : Type 0 where
+  pub number : ℕ
+  pub at : ℕ
+
 unfoldable pub outcome_of : ℕ → Progress → Outcome
 outcome_of k (going s) = record { number = 0; at = k }
 outcome_of k (stopped x j) = record { number = x; at = j }
@@ -60,3 +65,8 @@ ran_of most trace old =
       outcome = outcome_of (records (rest_of trace)) (run_of most trace (length old));
       report = report_of (shape trace) old (run_of most trace (length old));
     }
+
+-- as the code has it: the count, or what was refused
+abbrev pub outcome_in : Result ℕ Refused → Outcome
+outcome_in (Ok k) = record { number = 0; at = k }
+outcome_in (Err e) = record { number = number e.refusal; at = e.at }

@@ -12,7 +12,6 @@ use Rattle.setups.specs.Setup.{places, start_bytes, setup_refusal, setup_fields}
 use Rattle.steps.specs.Step.{step_refusal, step_fields}
 use Rattle.model.specs.Sizes.{line_width, flag_count}
 use Rattle.model.specs.declared.Place.{Place}
-use Rattle.kinds.specs.Kinds.{kind_of}
 use Rattle.model.specs.declared.Shape.{Shape}
 use Rattle.model.specs.declared.Row.{Row}
 use Rattle.model.specs.declared.Ask.{Ask}
@@ -149,7 +148,7 @@ records rest = (length rest + 7) / 8
 -- A RUN
 
 abbrev pub shape_of : Setup → Shape
-shape_of f = record { kind = kind_of f.kind; count = f.processes; size = f.size; delta = f.delta }
+shape_of f = record { kind = f.kind; count = f.processes; size = f.size; delta = f.delta }
 
 -- what a trace's setup says of the run (whatever the most processes are), and the bytes behind it
 abbrev pub shape : List ℕ → Shape

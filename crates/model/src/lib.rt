@@ -10,7 +10,7 @@ ghost use Rattle.model.specs.Run.{blank, blank_state, fresh};
 
 use bank::Bank;
 use kinds::Kind;
-use terms::{SlotNumber, Trace};
+use terms::{Refusal, SlotNumber, Trace};
 
 // Sizes. specs/Sizes.antt has the same numbers for the prover.
 
@@ -102,11 +102,23 @@ pub struct Reply {
     pub late: bool,
 }
 
-// What a run returns: 0 and the count of accepted steps, or the number of the refusal and its record.
-#[derive(Clone, Copy)]
-pub struct Outcome {
-    pub number: u32,
+// For what a run was refused, and at which record: the first is 1, the setup 0.
+#[derive(Clone, Copy, Debug, PartialEq, Eq)]
+pub struct Refused {
+    pub refusal: Refusal,
     pub at: u32,
+}
+
+// What a run returns: the count of accepted steps, or its refusal.
+pub type Outcome = Result<u32, Refused>;
+
+// At the setup, unless the run says at which record.
+impl From<Refusal> for Refused {
+    ghost from_gives = { λ refusal r. r ≡ record { refusal = refusal; at = 0 } };
+
+    fn from(refusal: Refusal) -> Refused {
+        Refused { refusal, at: 0 }
+    }
 }
 
 impl Place {
