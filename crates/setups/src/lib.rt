@@ -1,5 +1,9 @@
 // The setup record: mark, kind, n, ℓ or b, a zero byte, Δ, and n start bytes. 8 + n bytes.
-#![tactic(auto, using(terms::proofs::RefusalLaws::stops, terms::proofs::RefusalLaws::goes_on))]
+#![tactic(
+    auto,
+    using(terms::proofs::RefusalLaws::stops, terms::proofs::RefusalLaws::goes_on),
+    unfolding(crate::specs::Setup::bad_size, crate::specs::Setup::setup_refusal)
+)]
 
 ghost use Rattle.std.specs.Prelude.{◌≡◌, ◌+◌, ◌≤◌, length};
 ghost use Rattle.terms.specs.Limits.{most_processes};
@@ -35,7 +39,6 @@ fn is_out_of_limits(size: u32, spare: u32) -> bool
     !(1..=Trace::SLOTS).contains(&size) || spare != 0
 }
 
-#[tactic(auto, unfolding(crate::specs::Setup::bad_size))]
 fn is_bad_size(kind: Kind, n: usize, size: u32, spare: u32) -> bool
     ensures { result ≡ bad_size kind n size spare }
 {
@@ -117,11 +120,6 @@ fn head_refusal(most: u32, trace: &[u8]) -> Result<(), Refusal>
 }
 
 // And 6.
-#[tactic(
-    auto,
-    using(terms::proofs::RefusalLaws::stops, terms::proofs::RefusalLaws::goes_on),
-    unfolding(crate::specs::Setup::setup_refusal)
-)]
 fn setup_refusal(most: u32, trace: &[u8]) -> Result<(), Refusal>
     ensures { refusal_in result ≡ setup_refusal most trace.now }
 {
@@ -163,7 +161,6 @@ pub fn read_setup(trace: &[u8]) -> Result<Setup, Refusal>
 // The rest of a trace after its setup; on refusal the empty part at the trace's beginning.
 #[tactic(
     auto,
-    using(terms::proofs::Parts::part_to_end),
     unfolding(crate::specs::Setup::setup_refusal, crate::specs::Setup::setup_rest, crate::specs::Setup::rest_start)
 )]
 pub fn setup_rest(trace: &[u8]) -> &[u8]
