@@ -98,8 +98,8 @@ module _ (most kind n size spare : ℕ) where
   pub limits_size : Limits most kind n size spare → (1 ≤ size) × (size ≤ most_slots) × (spare ≡ 0)
   limits_size l = size_said (kind_of kind) n size spare l.sized
 
-  pub limits_small : 0 ≡ setup_limits most kind n size spare → (setup_limits most kind n size spare ≡ 0) × (size ≤ most_slots)
-  limits_small h = (sym h, (limits_size (limits_said (sym h))).1)
+  pub limits_small : 0 ≡ setup_limits most kind n size spare → size ≤ most_slots
+  limits_small h = (limits_size (limits_said (sym h))).1
 
 -- READING
 
@@ -154,8 +154,8 @@ module _ (most : ℕ) (s : List ℕ) where
   unfolding setup_refusal
   said_setup a = simp (said_head a.head, a.good)
 
-  pub accepted_small : 0 ≡ setup_refusal most s → (setup_refusal most s ≡ 0) × (8 ≤ length s) × (8 + byte 3 s ≤ length s) × (byte 3 s ≤ most)
-  accepted_small h = let a = setup_said (sym h) in (sym h, a.head.eight, a.head.whole, a.head.limits.few)
+  pub accepted_small : 0 ≡ setup_refusal most s → (8 ≤ length s) × (8 + byte 3 s ≤ length s) × (byte 3 s ≤ most)
+  accepted_small h = let a = setup_said (sym h) in (a.head.eight, a.head.whole, a.head.limits.few)
 
 -- what is read and what is left, by the refusal
 module _ (most : ℕ) (s : List ℕ) where
@@ -274,7 +274,7 @@ module _ (most kind size : ℕ) (starts : List ℕ) (room : ℕ) where
   unfolding setup_write_refusal
   said_setup_write w = simp (said_limits _ _ _ _ _ w.limits, w.good, le-ltb _ _ w.fits)
 
-  pub writes_small : 0 ≡ setup_write_refusal most kind size starts room → (setup_write_refusal most kind size starts room ≡ 0) × (kind ≤ last_kind) × (length starts ≤ most) × (size ≤ most_slots) × (8 + length starts ≤ room)
+  pub writes_small : 0 ≡ setup_write_refusal most kind size starts room → (kind ≤ last_kind) × (length starts ≤ most) × (size ≤ most_slots) × (8 + length starts ≤ room)
   writes_small h =
       let w = setup_write_said (sym h) in
-      (sym h, w.limits.kind_high, w.limits.few, (limits_size _ _ _ _ _ w.limits).1, w.fits)
+      (w.limits.kind_high, w.limits.few, (limits_size _ _ _ _ _ w.limits).1, w.fits)
