@@ -14,8 +14,8 @@ use Rattle.std.specs.Prelude.{Result, Ok, Err}
 use Rattle.std.specs.List.{list_any}
 use Rattle.std.specs.Result.{result_unwrap_or}
 use Rattle.terms.specs.Limits.{most_slots}
-use Rattle.terms.specs.Little.{little_of, AllBytes}
-use Rattle.terms.specs.Refusal.{any_from, if_accepted, number}
+use Rattle.terms.specs.Little.{AllBytes}
+use Rattle.terms.specs.Refusal.{any_from, if_accepted, number, refusal_in, numbered}
 use Rattle.terms.specs.declared.Refusal.{Refusal}
 use Rattle.terms.proofs.RefusalLaws.{if_refused, then_both, passed, refuse-false, both_false, not_outside, inside, ok_is_no_error, some_number}
 use Rattle.kinds.specs.declared.Kind.{Kind}
@@ -65,9 +65,9 @@ module _ (n size spare j x : ℕ) where
   start_rule Kind.Plain = refl
   start_rule Kind.Fast = refl
 
--- the code asks by the rule alone, the table also by the index
+-- the code asks each start byte by its rule alone, the table also by its index; past the last of them both have asked all
 module _ (κ : Kind) (n size spare : ℕ) where
-  pub starts_rule : (i : ℕ) (s : List ℕ) → any_from i (bad_start κ n size spare) s ≡ list_any (no_start (proposes κ) size) s
+  starts_rule : (i : ℕ) (s : List ℕ) → any_from i (bad_start κ n size spare) s ≡ list_any (no_start (proposes κ) size) s
   starts_rule i [] = refl
   starts_rule i (x ∷ xs) = rw (← start_rule n size spare i x κ, starts_rule (suc i) xs)
 
@@ -98,8 +98,9 @@ module _ (most kind n size spare : ℕ) where
   pub limits_size : Limits most kind n size spare → (1 ≤ size) × (size ≤ most_slots) × (spare ≡ 0)
   limits_size l = size_said (kind_of kind) n size spare l.sized
 
-  pub limits_small : 0 ≡ setup_limits most kind n size spare → (setup_limits most kind n size spare ≡ 0) × (size ≤ most_slots)
-  limits_small h = (sym h, (limits_size (limits_said (sym h))).1)
+  -- and as the writer's cast asks
+  pub limits_small : 0 ≡ setup_limits most kind n size spare → size ≤ most_slots
+  limits_small h = (limits_size (limits_said (sym h))).1
 
 -- READING
 
@@ -154,8 +155,9 @@ module _ (most : ℕ) (s : List ℕ) where
   unfolding setup_refusal
   said_setup a = simp (said_head a.head, a.good)
 
-  pub accepted_small : 0 ≡ setup_refusal most s → (setup_refusal most s ≡ 0) × (8 ≤ length s) × (8 + byte 3 s ≤ length s) × (byte 3 s ≤ most)
-  accepted_small h = let a = setup_said (sym h) in (sym h, a.head.eight, a.head.whole, a.head.limits.few)
+  -- and as the reader's parts ask
+  pub accepted_small : 0 ≡ setup_refusal most s → (8 ≤ length s) × (8 + byte 3 s ≤ length s) × (byte 3 s ≤ most)
+  accepted_small h = let a = setup_said (sym h) in (a.head.eight, a.head.whole, a.head.limits.few)
 
 -- what is read and what is left, by the refusal
 module _ (most : ℕ) (s : List ℕ) where
@@ -167,13 +169,9 @@ module _ (most : ℕ) (s : List ℕ) where
   unfolding setup_read
   setup_refused k e h = simp (e, if_refused k h)
 
+  -- and by the name of what refuses
   pub unset : (e : Refusal) → number e ≡ setup_refusal most s → Err (number e) ≡ setup_read most s
   unset e h = setup_refused (number e) (sym h) (some_number e)
-
-  pub set_up : (κ : Kind) (d : ℕ) (l : List ℕ) → 0 ≡ setup_refusal most s
-      → κ ≡ kind_of (byte 2 s) → d ≡ little_of (byte 6 s ∷ byte 7 s ∷ []) → l ≡ places most (start_bytes s)
-      → Ok (record { kind = κ; processes = byte 3 s; size = byte 4 s; delta = d; starts = l }) ≡ setup_read most s
-  set_up κ d l h p q r = simp (p, q, r) (setup_accepted (sym h))
 
   pub rest_accepted : setup_refusal most s ≡ 0 → (setup_rest most s ≡ drop (8 + byte 3 s) s) × (rest_start most s ≡ 8 + byte 3 s)
   unfolding setup_rest rest_start
@@ -183,24 +181,29 @@ module _ (most : ℕ) (s : List ℕ) where
   unfolding setup_rest rest_start
   rest_refused k e h = (simp (e, if_refused k h), simp (e, if_refused k h))
 
-  -- of what a reader answered: a setup is the trace's, and the table accepts; a refusal is the table's
-  pub setup_read_ok : (x : Setup) → Ok x ≡ setup_read most s → (setup_refusal most s ≡ 0) × (x ≡ setup_fields most s)
+  read_ok : (x : Setup) → Ok x ≡ setup_read most s → (setup_refusal most s ≡ 0) × (x ≡ setup_fields most s)
   unfolding setup_read
-  setup_read_ok x = by (setup_refusal most s)
+  read_ok x = by (setup_refusal most s)
     where
       by : (k : ℕ) → Ok x ≡ if_accepted k (Ok (setup_fields most s)) (Err k) → (k ≡ 0) × (x ≡ setup_fields most s)
       by zero e = (refl, ap (λ r. result_unwrap_or r x) e)
       by (suc k) e = absurd (ok_is_no_error e)
 
-  pub setup_read_err : (k : ℕ) → Err k ≡ setup_read most s → (setup_refusal most s ≡ k) × (k ≡ 0 → ⊥)
+  read_err : (k : ℕ) → Err k ≡ setup_read most s → setup_refusal most s ≡ k
   unfolding setup_read
-  setup_read_err k = by (setup_refusal most s)
+  read_err k = by (setup_refusal most s)
     where
-      by : (j : ℕ) → Err k ≡ if_accepted j (Ok (setup_fields most s)) (Err j) → (j ≡ k) × (k ≡ 0 → ⊥)
+      by : (j : ℕ) → Err k ≡ if_accepted j (Ok (setup_fields most s)) (Err j) → j ≡ k
       by zero e = absurd (ok_is_no_error (sym e))
-      by (suc j) e =
-          let same : k ≡ suc j = ap (λ r. elim r [ Ok x ↦ 0 | Err k ↦ k ]) e in
-          (sym same, λ h. omega (arith, same))
+      by (suc j) e = sym (ap (λ r. elim r [ Ok x ↦ 0 | Err i ↦ i ]) e)
+
+  -- of what a reader answered: its refusal is the table's, and where it is a setup its fields are the trace's
+  pub setup_refusal_read : (r : Result Setup Refusal) → numbered r ≡ setup_read most s → setup_refusal most s ≡ refusal_in r
+  setup_refusal_read (Ok x) e = (read_ok x e).0
+  setup_refusal_read (Err d) e = read_err (number d) e
+
+  pub setup_fields_read : (r : Result Setup Refusal) → numbered r ≡ setup_read most s → {x : Setup} → r ≡ Ok x → x ≡ setup_fields most s
+  setup_fields_read r e {x} h = (read_ok x (ap numbered (sym h) ∙ e)).1
 
 -- START BYTES
 
@@ -274,7 +277,9 @@ module _ (most kind size : ℕ) (starts : List ℕ) (room : ℕ) where
   unfolding setup_write_refusal
   said_setup_write w = simp (said_limits _ _ _ _ _ w.limits, w.good, le-ltb _ _ w.fits)
 
-  pub writes_small : 0 ≡ setup_write_refusal most kind size starts room → (setup_write_refusal most kind size starts room ≡ 0) × (kind ≤ last_kind) × (length starts ≤ most) × (size ≤ most_slots) × (8 + length starts ≤ room)
+  -- and as the writer's casts and parts ask
+  pub writes_small : 0 ≡ setup_write_refusal most kind size starts room
+      → (kind ≤ last_kind) × (length starts ≤ most) × (size ≤ most_slots) × (8 + length starts ≤ room)
   writes_small h =
       let w = setup_write_said (sym h) in
-      (sym h, w.limits.kind_high, w.limits.few, (limits_size _ _ _ _ _ w.limits).1, w.fits)
+      (w.limits.kind_high, w.limits.few, (limits_size _ _ _ _ _ w.limits).1, w.fits)

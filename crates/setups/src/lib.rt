@@ -1,5 +1,5 @@
 // The setup record: mark, kind, n, ℓ or b, a zero byte, Δ, and n start bytes. 8 + n bytes.
-#![tactic(auto, using(terms::proofs::RefusalLaws::stops, terms::proofs::RefusalLaws::goes_on))]
+#![tactic(auto, using(terms::proofs::RefusalLaws::stops, terms::proofs::RefusalLaws::goes_on), unfolding(crate::specs::Setup::bad_size, crate::specs::Setup::setup_refusal))]
 
 ghost use Rattle.std.specs.Prelude.{◌≡◌, ◌+◌, ◌≤◌, length};
 ghost use Rattle.terms.specs.Limits.{most_processes};
@@ -35,7 +35,6 @@ fn is_out_of_limits(size: u32, spare: u32) -> bool
     !(1..=Trace::SLOTS).contains(&size) || spare != 0
 }
 
-#[tactic(auto, unfolding(crate::specs::Setup::bad_size))]
 fn is_bad_size(kind: Kind, n: usize, size: u32, spare: u32) -> bool
     ensures { result ≡ bad_size kind n size spare }
 {
@@ -86,7 +85,7 @@ fn setup_limits(most: u32, kind: u32, n: usize, size: u32, spare: u32) -> Result
     Ok(())
 }
 
-// And 6.
+// 6.
 fn start_refusal(kind: Kind, size: u8, spare: u8, starts: &[u8]) -> Result<(), Refusal>
     ensures { refusal_in result ≡ start_refusal kind size spare starts.now }
 {
@@ -109,25 +108,31 @@ fn head_refusal(most: u32, trace: &[u8]) -> Result<(), Refusal>
         return Err(Refusal::SetupMark);
     }
     let n = usize::from(trace[3]);
-    setup_limits(most, u32::from(trace[2]), n, u32::from(trace[4]), u32::from(trace[5]))?;
+    setup_limits(
+        most,
+        u32::from(trace[2]),
+        n,
+        u32::from(trace[4]),
+        u32::from(trace[5]),
+    )?;
     if trace.len() < 8 + n {
         return Err(Refusal::SetupCut);
     }
     Ok(())
 }
 
-// And 6.
-#[tactic(
-    auto,
-    using(terms::proofs::RefusalLaws::stops, terms::proofs::RefusalLaws::goes_on),
-    unfolding(crate::specs::Setup::setup_refusal)
-)]
+// And 6: all that a setup is refused for.
 fn setup_refusal(most: u32, trace: &[u8]) -> Result<(), Refusal>
     ensures { refusal_in result ≡ setup_refusal most trace.now }
 {
     head_refusal(most, trace)?;
     let kind = kinds::kind_of(u32::from(trace[2]));
-    start_refusal(kind, trace[4], trace[5], &trace[8..8 + usize::from(trace[3])])
+    start_refusal(
+        kind,
+        trace[4],
+        trace[5],
+        &trace[8..8 + usize::from(trace[3])],
+    )
 }
 
 // The start bytes in their places, 0 in those beyond them.
@@ -141,11 +146,7 @@ fn places(starts: &[u8]) -> [u8; PLACES]
 }
 
 // The setup that a trace begins with.
-#[tactic(
-    auto,
-    using(crate::proofs::SetupLaws::unset, crate::proofs::SetupLaws::accepted_small),
-    unfolding(crate::specs::Setup::setup_read)
-)]
+#[tactic(auto, using(crate::proofs::SetupLaws::unset, crate::proofs::SetupLaws::accepted_small), unfolding(crate::specs::Setup::setup_read))]
 pub fn read_setup(trace: &[u8]) -> Result<Setup, Refusal>
     ensures { numbered result ≡ setup_read most_processes trace.now }
 {
@@ -161,11 +162,7 @@ pub fn read_setup(trace: &[u8]) -> Result<Setup, Refusal>
 }
 
 // The rest of a trace after its setup; on refusal the empty part at the trace's beginning.
-#[tactic(
-    auto,
-    using(terms::proofs::Parts::part_to_end),
-    unfolding(crate::specs::Setup::setup_refusal, crate::specs::Setup::setup_rest, crate::specs::Setup::rest_start)
-)]
+#[tactic(auto, using(crate::proofs::SetupLaws::accepted_small), unfolding(crate::specs::Setup::setup_rest, crate::specs::Setup::rest_start))]
 pub fn setup_rest(trace: &[u8]) -> &[u8]
     ensures bytes { result.now ≡ setup_rest most_processes trace.now }
     ensures place { result.ref_ptr ≡ (trace.entry.ref_ptr.0, rest_start most_processes trace.now + trace.entry.ref_ptr.1) }
@@ -179,12 +176,14 @@ pub fn setup_rest(trace: &[u8]) -> &[u8]
 // WRITING
 
 // 3, 4, 5, 6, 19 of a setup that is to be written to a buffer of `room` bytes.
-#[tactic(
-    auto,
-    using(terms::proofs::RefusalLaws::stops, terms::proofs::RefusalLaws::goes_on, crate::proofs::SetupLaws::limits_small),
-    unfolding(crate::specs::Setup::setup_write_refusal)
-)]
-fn setup_write_refusal(most: u32, kind: u32, size: u32, starts: &[u8], room: usize) -> Result<(), Refusal>
+#[tactic(auto, using(terms::proofs::RefusalLaws::stops, terms::proofs::RefusalLaws::goes_on, crate::proofs::SetupLaws::limits_small), unfolding(crate::specs::Setup::setup_write_refusal))]
+fn setup_write_refusal(
+    most: u32,
+    kind: u32,
+    size: u32,
+    starts: &[u8],
+    room: usize,
+) -> Result<(), Refusal>
     ensures { refusal_in result ≡ setup_write_refusal most kind size starts.now room }
 {
     let n = starts.len();
@@ -204,7 +203,9 @@ pub fn write_setup(kind: u32, size: u32, delta: u16, starts: &[u8], buffer: &mut
     setup_write_refusal(Trace::PROCESSES, kind, size, starts, buffer.len())?;
     let n = starts.len();
     let [low, high] = terms::u16_bytes(delta);
-    let head = [MARK[0], MARK[1], kind as u8, n as u8, size as u8, 0, low, high];
+    let head = [
+        MARK[0], MARK[1], kind as u8, n as u8, size as u8, 0, low, high,
+    ];
     buffer[..8].copy_from_slice(&head);
     buffer[8..8 + n].copy_from_slice(starts);
     Ok(8 + n)
