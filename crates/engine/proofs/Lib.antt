@@ -1,3 +1,4 @@
-pub mod WalkLaws
-pub mod EntryLaws
+pub mod OneRecord
+pub mod Walk
+pub mod Entry
 pub mod Settled

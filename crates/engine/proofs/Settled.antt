@@ -2,7 +2,8 @@
 -- Assumes nothing.
 use mathlib.Core.Path.{◌≡◌, refl, sym, ◌∙◌}
 use Rattle.terms.proofs.Settles.{Settles}
-use Rattle.model.specs.Report.{Ran}
+use Rattle.model.specs.Report.{Ran, outcome_in}
+use Rattle.model.proofs.ReportLaws.{outcome_settles}
 use Rattle.engine.proofs.moves.take_step.Kinds as take_step_kinds
 use Rattle.engine.proofs.moves.take_step.Reads as take_step
 use Rattle.engine.proofs.runs.run.Kinds as run_kinds
@@ -13,5 +14,5 @@ take_step_settles κs a x y u v p q = (refl, (λ k. (tt, (tt, ((p ∙ sym q) k, 
 
 pub run_settles : Settles 2 run_kinds.ps run_kinds.r run.Post
 run_settles κs a x y u v p q =
-    let e : ◌≡◌ {A = Ran} (record { outcome = x; report = u.1.0 }) (record { outcome = y; report = v.1.0 }) = p ∙ sym q in
-    ((λ k. (e k).outcome), (λ k. (tt, ((e k).report, tt))))
+    let e : ◌≡◌ {A = Ran} (record { outcome = outcome_in x; report = u.1.0 }) (record { outcome = outcome_in y; report = v.1.0 }) = p ∙ sym q in
+    (outcome_settles x y (λ k. (e k).outcome), (λ k. (tt, ((e k).report, tt))))

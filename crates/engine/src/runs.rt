@@ -1,24 +1,43 @@
 // The run: a trace's records one after the other, with the state in place; and the entry point.
 ghost use Rattle.std.specs.Prelude.{◌≡◌, ◌*◌, ◌≤◌, length};
 ghost use Rattle.terms.specs.Limits.{most_processes, most_steps};
+ghost use Rattle.terms.specs.Refusal.{refusal_in, if_accepted, numbered};
+ghost use Rattle.steps.specs.Step.{step_fields};
 ghost use Rattle.model.specs.Bounds.{Sound, Starts};
 ghost use Rattle.model.specs.Sizes.{line_width};
-ghost use Rattle.model.specs.Run.{shape_of};
-ghost use Rattle.model.specs.Report.{ran_of};
-ghost use Rattle.engine.specs.Stepped.{Begins, Walked, ran_from};
+ghost use Rattle.model.specs.Run.{after, record_refusal, shape_of};
+ghost use Rattle.model.specs.Report.{outcome_in, ran_of};
+ghost use Rattle.engine.specs.Stepped.{Roomy, Begins, Walked, ran_from, set_up};
 
 use crate::{moves, report};
 use bank::Bank;
-use model::{FLAGS, LINE, Outcome, ROWS, Row, Shape, Shared, State};
+use model::{FLAGS, LINE, Outcome, ROWS, Refused, Row, Shape, Shared, State};
 use routine::judges;
 use setups::{PLACES, Setup};
-use terms::Trace;
+use terms::{Refusal, Trace};
+
+// The record that s begins with: taken, or refused by its bytes or by the state, which then stays as it was.
+#[tactic(auto, unfolding(model::specs::Run::record_refusal))]
+fn take_record(shape: Shape, s: &[u8], state: &mut State) -> Result<(), Refusal>
+    requires sound { Sound shape }
+    requires few { shape.count ≤ most_processes }
+    requires roomy { Roomy shape state.old }
+    ensures answer { refusal_in result ≡ record_refusal shape state.old s.now }
+    ensures left { state.new
+        ≡ if_accepted (record_refusal shape state.old s.now) (after shape state.old (step_fields s.now)) state.old }
+{
+    let step = steps::read_step_of(shape.count, s)?;
+    let j = (step.process.0 - 1) as usize;
+    judges::judge(shape, &state.rows[j], state.newest, step)?;
+    moves::take_step(shape, step, state);
+    Ok(())
+}
 
 // The records of `rest`, one after the other: `state` is one that a run begins with, and then the state that the records left.
 fn take_records(shape: Shape, rest: &[u8], state: &mut State) -> Outcome
     requires sound { Sound shape }
-    requires count_le_most_processes { shape.count ≤ most_processes }
-    requires rest_len_bound { length rest.now ≤ 8 * most_steps }
+    requires few { shape.count ≤ most_processes }
+    requires short { length rest.now ≤ 8 * most_steps }
     requires begins { Begins shape state.old }
     ensures { Walked shape state.old rest.now result state.new }
 {
@@ -26,25 +45,12 @@ fn take_records(shape: Shape, rest: &[u8], state: &mut State) -> Outcome
     for k in 0..records {
         let begin = k * 8;
         let at = k as u32 + 1;
-        let read = steps::read_step_of(shape.count, &rest[begin..]);
-        if read.refusal != 0 {
-            return Outcome {
-                number: read.refusal,
-                at,
-            };
+        match take_record(shape, &rest[begin..], state) {
+            Ok(()) => {}
+            Err(refusal) => return Err(Refused { refusal, at }),
         }
-        let step = read.step;
-        let j = (step.process.0 - 1) as usize;
-        let no = judges::judge(shape, &state.rows[j], state.newest, step);
-        if no != 0 {
-            return Outcome { number: no, at };
-        }
-        moves::take_step(shape, step, state);
     }
-    Outcome {
-        number: 0,
-        at: records as u32,
-    }
+    Ok(records as u32)
 }
 
 // A run of the records of `rest`, from its fresh state to its report.
@@ -52,9 +58,9 @@ fn take_records(shape: Shape, rest: &[u8], state: &mut State) -> Outcome
 fn run_steps(shape: Shape, starts: [u8; PLACES], rest: &[u8], report: &mut [u32]) -> Outcome
     requires sound { Sound shape }
     requires starts { Starts shape starts }
-    requires rest_len_bound { length rest.now ≤ 8 * most_steps }
+    requires short { length rest.now ≤ 8 * most_steps }
     requires room { line_width * shape.count ≤ length report.old }
-    ensures { record { outcome = result; report = report.new } ≡ ran_from shape starts rest.now report.old }
+    ensures { record { outcome = outcome_in result; report = report.new } ≡ ran_from shape starts rest.now report.old }
 {
     let mut state = State {
         rows: [Row::BLANK; ROWS],
@@ -65,46 +71,43 @@ fn run_steps(shape: Shape, starts: [u8; PLACES], rest: &[u8], report: &mut [u32]
         newest: 0,
     };
     state.begin(shape, starts);
-    let outcome = take_records(shape, rest, &mut state);
-    if outcome.number != 0 {
-        return outcome;
-    }
+    let accepted = take_records(shape, rest, &mut state)?;
     report::write_lines(shape, &state.rows, report);
-    outcome
+    Ok(accepted)
 }
 
 fn shape_of(setup: Setup) -> Shape
     ensures { result ≡ shape_of setup }
 {
-    let kind = kinds::kind_of(setup.kind as u32);
     Shape {
-        kind,
-        count: setup.processes as u32,
-        size: setup.size as u32,
-        delta: setup.delta as u32,
+        kind: setup.kind,
+        count: u32::from(setup.processes),
+        size: u32::from(setup.size),
+        delta: u32::from(setup.delta),
     }
 }
 
-// A run of a trace, with its report: 0 and the count of accepted steps, or the number of a refusal and its record.
-pub fn run(trace: &[u8], report: &mut [u32]) -> Outcome
-    ensures { record { outcome = result; report = report.new } ≡ ran_of most_processes trace.now report.old }
+// 1 to 8: the setup of a trace, where a report of `room` numbers may take its run.
+fn set_up(trace: &[u8], room: usize) -> Result<Setup, Refusal>
+    ensures { numbered result ≡ set_up trace.now room }
 {
-    let read = setups::read_setup(trace);
-    let no = read.refusal;
-    if no != 0 {
-        return Outcome { number: no, at: 0 };
-    }
-    let setup = read.setup;
-    let n = setup.processes as usize;
-    let short = report.len() < LINE * n;
+    let setup = setups::read_setup(trace)?;
+    let n = usize::from(setup.processes);
+    let short = room < LINE * n;
     if short {
-        return Outcome { number: 7, at: 0 };
+        return Err(Refusal::ReportShort);
     }
-    let begin = 8 + n;
-    let rest = &trace[begin..];
-    if 8 * (Trace::STEPS as usize) < rest.len() {
-        return Outcome { number: 8, at: 0 };
+    if 8 * (Trace::STEPS as usize) < trace.len() - (8 + n) {
+        return Err(Refusal::TraceLong);
     }
-    let starts = setup.starts;
-    run_steps(shape_of(setup), starts, rest, report)
+    Ok(setup)
+}
+
+// A run of a trace, with its report: the count of accepted steps, or a refusal and its record.
+pub fn run(trace: &[u8], report: &mut [u32]) -> Outcome
+    ensures { record { outcome = outcome_in result; report = report.new } ≡ ran_of most_processes trace.now report.old }
+{
+    let setup = set_up(trace, report.len())?;
+    let rest = &trace[8 + usize::from(setup.processes)..];
+    run_steps(shape_of(setup), setup.starts, rest, report)
 }

@@ -15,15 +15,17 @@ use Rattle.terms.specs.Limits.{most_steps}
 use Rattle.terms.specs.Overlay.{overlay, spliced}
 use Rattle.terms.specs.Refusal.{refuse}
 use Rattle.terms.proofs.OverlayLaws.{spliced_front, spliced_then}
-use Rattle.terms.proofs.RefusalLaws.{then_stop}
+use Rattle.terms.proofs.RefusalLaws.{some_number, same_name}
 use Rattle.records.specs.Record.{byte}
 use Rattle.setups.specs.Setup.{setup_refusal}
 use Rattle.model.specs.declared.Shape.{Shape}
+use Rattle.std.specs.Prelude.{Result, Ok, Err}
+use Rattle.model.specs.declared.Refused.{Refused}
 use Rattle.model.specs.declared.Row.{Row}
 use Rattle.model.specs.Routine.{Routine}
 use Rattle.model.specs.Sizes.{line_width}
 use Rattle.model.specs.Run.{blank, shape, rest_of, run_refusal, records, reached, Progress, Progress.stopped}
-use Rattle.model.specs.Report.{shown_place, figure_of, line, lines, report_of, outcome_of, Ran, ran_of}
+use Rattle.model.specs.Report.{shown_place, figure_of, line, lines, report_of, outcome_of, outcome_in, Outcome, Ran, ran_of}
 use Rattle.model.proofs.RunLaws.{run_refused, run_follows}
 
 -- LINES
@@ -69,37 +71,23 @@ unfolding outcome_of report_of
 ran_stopped u rest old e = sym (ap (ran_by u rest old) e)
 
 module _ (most : ℕ) (trace old : List ℕ) where
-  refused_first : (run_refusal most trace (length old) ≡ 0 → ⊥) → refused_run (run_refusal most trace (length old)) 0 old ≡ ran_of most trace old
+  -- refused before the first record; and on to the records
+  pub ran_refused_first : {k : ℕ} → k ≡ run_refusal most trace (length old) → (k ≡ 0 → ⊥) → refused_run k 0 old ≡ ran_of most trace old
   unfolding ran_of
-  refused_first h = ran_stopped (shape trace) (rest_of trace) old (run_refused _ _ _ _ h)
+  ran_refused_first e h =
+      ap (λ (y : ℕ). refused_run y 0 old) e ∙ ran_stopped (shape trace) (rest_of trace) old (run_refused _ _ _ _ (λ z. h (e ∙ z)))
 
-  refused_as : (x : ℕ) → run_refusal most trace (length old) ≡ suc x → refused_run (suc x) 0 old ≡ ran_of most trace old
-  refused_as x e = ap (λ (y : ℕ). refused_run y 0 old) (sym e) ∙ refused_first (λ z. absurd (omega arith))
+  pub ran_on : run_refusal most trace (length old) ≡ 0
+      → ran_by (shape trace) (rest_of trace) old (reached most trace (records (rest_of trace))) ≡ ran_of most trace old
+  unfolding ran_of
+  ran_on h = ap (ran_by (shape trace) (rest_of trace) old) (sym (run_follows _ _ _ _ h))
 
-  -- 1 to 6; 7; 8
-  pub ran_unset : (x : ℕ) → x ≡ setup_refusal most trace → (x ≡ 0 → ⊥) → refused_run x 0 old ≡ ran_of most trace old
-  unfolding run_refusal
-  ran_unset x e h =
-      let no : setup_refusal most trace ≡ 0 → ⊥ = λ z. h (e ∙ z) in
-      let one = then_stop (setup_refusal most trace) no (refuse 7 (ltb (length old) (line_width * byte 3 trace))) in
-      let all : run_refusal most trace (length old) ≡ setup_refusal most trace = then_stop _ (λ z. no (sym one ∙ z)) _ ∙ one in
-      ap (λ (y : ℕ). refused_run y 0 old) (e ∙ sym all) ∙ refused_first (λ z. no (sym all ∙ z))
-
-  module _ (set : setup_refusal most trace ≡ 0) where
-    pub ran_narrow : length old < line_width * byte 3 trace → refused_run 7 0 old ≡ ran_of most trace old
-    unfolding run_refusal
-    ran_narrow h = refused_as 6 (rw (set, lt-ltb (length old) (line_width * byte 3 trace) h))
-
-    module _ (wide : line_width * byte 3 trace ≤ length old) where
-      pub ran_long : 8 * most_steps < length (rest_of trace) → refused_run 8 0 old ≡ ran_of most trace old
-      unfolding run_refusal
-      ran_long h = refused_as 7 (rw (set, le-ltb (length old) (line_width * byte 3 trace) wide, lt-ltb (8 * most_steps) (length (rest_of trace)) h))
-
-      -- and then the records
-      pub ran_on : length (rest_of trace) ≤ 8 * most_steps
-          → ran_by (shape trace) (rest_of trace) old (reached most trace (records (rest_of trace))) ≡ ran_of most trace old
-      unfolding run_refusal ran_of
-      ran_on h =
-          let accepted : run_refusal most trace (length old) ≡ 0 =
-          rw (set, le-ltb (length old) (line_width * byte 3 trace) wide, le-ltb (8 * most_steps) (length (rest_of trace)) h) in
-          ap (ran_by (shape trace) (rest_of trace) old) (sym (run_follows _ _ _ _ accepted))
+-- a run's answer is settled by its outcome's numbers
+pub outcome_settles : (x y : Result ℕ Refused) → outcome_in x ≡ outcome_in y → x ≡ y
+outcome_settles (Ok a) (Ok b) h = ap Ok (ap (λ (o : Outcome). o.at) h)
+outcome_settles (Ok a) (Err e) h = absurd (some_number e.refusal (sym (ap (λ (o : Outcome). o.number) h)))
+outcome_settles (Err e) (Ok b) h = absurd (some_number e.refusal (ap (λ (o : Outcome). o.number) h))
+outcome_settles (Err d) (Err e) h =
+    let refusal = same_name d.refusal e.refusal (ap (λ (o : Outcome). o.number) h) in
+    let at : d.at ≡ e.at = ap (λ (o : Outcome). o.at) h in
+    λ k. Err (record { refusal = refusal k; at = at k })

@@ -149,10 +149,6 @@ module _ (first : ℕ) (tape : Tape) (x : State) (n : ℕ) where
 
 -- ON STEP RECORDS
 
--- what the state says to the record at the front of bytes
-abbrev pub judge_at : Shape → State → List ℕ → ℕ
-judge_at u s bytes = judge u (row_of s (step_fields bytes).process) s.newest (step_fields bytes)
-
 -- what is kept by each accepted record of these bytes
 abbrev pub Keeps : Shape → List ℕ → (ℕ → State → Type 0) → Type 0
 Keeps u rest P = KeepsOn (step_tape u rest) P
@@ -164,26 +160,14 @@ module _ (u : Shape) (x : State) (rest : List ℕ) where
   pub reach_stays : (k m : ℕ) {y j : ℕ} → reach u x rest k ≡ stopped y j → k ≤ m → reach u x rest m ≡ stopped y j
   reach_stays = follow_stays (step_tape u rest) x
 
-  -- as the code finds it: by the record's bytes, and then by the state
+  -- one record more: refused with y, or accepted
   module _ (k : ℕ) {s : State} (so_far : reach u x rest k ≡ going s) where
-    refused_as : {y : ℕ} → record_refusal u s (record_at rest k) ≡ y → (y ≡ 0 → ⊥) → reach u x rest (k + 1) ≡ stopped y (k + 1)
-    refused_as e h =
-        rw add-one (follow_refuses (step_tape u rest) x k so_far (λ z. h (sym e ∙ z)) ∙ ap (λ (y : ℕ). stopped y (suc k)) e)
+    pub reach_refused : {y : ℕ} → y ≡ record_refusal u s (record_at rest k) → (y ≡ 0 → ⊥) → reach u x rest (k + 1) ≡ stopped y (k + 1)
+    reach_refused e h =
+        rw add-one (follow_refuses (step_tape u rest) x k so_far (λ z. h (e ∙ z)) ∙ ap (λ (y : ℕ). stopped y (suc k)) (sym e))
 
-    pub refused_by_bytes : (step_refusal u.count (record_at rest k) ≡ 0 → ⊥)
-        → reach u x rest (k + 1) ≡ stopped (step_refusal u.count (record_at rest k)) (k + 1)
-    unfolding record_refusal
-    refused_by_bytes h = refused_as (then_stop _ h _) h
-
-    pub refused_by_judge : step_refusal u.count (record_at rest k) ≡ 0 → (judge_at u s (record_at rest k) ≡ 0 → ⊥)
-        → reach u x rest (k + 1) ≡ stopped (judge_at u s (record_at rest k)) (k + 1)
-    unfolding record_refusal
-    refused_by_judge z h = refused_as (then_on _ _ z) h
-
-    pub accepted_by_both : step_refusal u.count (record_at rest k) ≡ 0 → judge_at u s (record_at rest k) ≡ 0
-        → reach u x rest (k + 1) ≡ going (after u s (step_at rest k))
-    unfolding record_refusal
-    accepted_by_both z h = rw add-one (follow_accepts (step_tape u rest) x k so_far (then_on _ _ z ∙ h))
+    pub reach_accepted : record_refusal u s (record_at rest k) ≡ 0 → reach u x rest (k + 1) ≡ going (after u s (step_at rest k))
+    reach_accepted h = rw add-one (follow_accepts (step_tape u rest) x k so_far h)
 
   -- an accepted record has its eight bytes
   pub reach_long : (k : ℕ) {s : State} → reach u x rest k ≡ going s → k * 8 ≤ length rest

@@ -1,6 +1,7 @@
 -- Each promise settles its outcome: the answer, and the row that is lent. (`Settles` has the meaning.)
 -- Assumes nothing.
 use mathlib.Core.Path.{refl, sym, ◌∙◌}
+use Rattle.terms.proofs.RefusalLaws.{refusal_settles}
 use Rattle.terms.proofs.Settles.{Settles}
 use Rattle.routine.proofs.judges.judge.Kinds as judge_kinds
 use Rattle.routine.proofs.judges.judge.Reads as judge
@@ -24,7 +25,7 @@ use Rattle.routine.proofs.takes.decided.Kinds as decided_kinds
 use Rattle.routine.proofs.takes.decided.Reads as decided
 
 pub judge_settles : Settles 1 judge_kinds.ps judge_kinds.r judge.Post
-judge_settles κs a x y u v p q = (p ∙ sym q, refl)
+judge_settles κs a x y u v p q = (refusal_settles x y (p ∙ sym q), refl)
 
 pub rest_settles : Settles 1 rest_kinds.ps rest_kinds.r rest.Post
 rest_settles κs a x y u v p q = (refl, (λ k. (tt, ((p 0 ∙ sym (q 0)) k, tt))))

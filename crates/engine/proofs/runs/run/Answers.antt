@@ -1,37 +1,32 @@
--- `engine::runs::run` meets its contract: the setup that was read refuses, or says what the walk needs. Assumes nothing.
-use Rattle.std.proofs.Common.{◌∙◌, ◌+◌, ◌≤◌, length, arith, rules}
-use Rattle.engine.proofs.EntryLaws.{unset, begins_inside, narrow, too_long, sound, starts, goes_on}
+-- `engine::runs::run` meets its contract: the setup refuses, or says what the walk needs. Assumes nothing.
+use Rattle.std.proofs.Common.{◌∙◌, arith, rules}
+use Rattle.std.proofs.lemmas.Result.{err_from_is_err_and}
+use Rattle.engine.proofs.Entry.{refused_first, rest_inside, short, room_for_lines, sound, starts, goes_on}
 use Rattle.engine.proofs.runs.run.Goals as goal
-use Rattle.engine.proofs.runs.run.Goals.{Else-short}
 
-inside : (c : Else-short) → 8 + c.read_setup-read.result.setup.processes ≤ length c.args.trace.now
-inside c = begins_inside c.args.trace.now _ c.read_setup-read.ensures c.if-no-ne0.false
-
-pub returns-then-no-ne0 : goal.returns-then-no-ne0
-returns-then-no-ne0 c = unset c.args.trace.now _ c.read_setup-read.ensures c.if-no-ne0.true c.args.report.now
-
-pub returns-then-short : goal.returns-then-short
-returns-then-short c = narrow c.args.trace.now _ c.read_setup-read.ensures c.if-no-ne0.false c.args.report.now (omega (arith, c.if-short.true))
+pub returns-in_err-setup : goal.returns-in_err-setup
+returns-in_err-setup c =
+    let p = err_from_is_err_and c.from_residual.result c.from_residual.ensures.1 in
+    rw (p.1, p.2) (refused_first _ _ _ c.in_err-setup.ensures)
 
 pub slice_bounds-rest-count : goal.slice_bounds-rest-count
-slice_bounds-rest-count c = inside c
+slice_bounds-rest-count c = omega (arith, rest_inside c.args.trace.now c.args.report.now c.in_ok-setup.ensures, c.from.ensures)
 
 pub slice_bounds-rest-start : goal.slice_bounds-rest-start
-slice_bounds-rest-start c = search (rules, inside c)
-
-pub returns-then-rest : goal.returns-then-rest
-returns-then-rest c =
-    too_long c.args.trace.now _ c.read_setup-read.ensures c.if-no-ne0.false c.args.report.now (omega arith) (omega (arith, c.if-rest.true))
+slice_bounds-rest-start c = search (rules, rest_inside c.args.trace.now c.args.report.now c.in_ok-setup.ensures)
 
 pub run_steps-requires-clause-sound : goal.run_steps-requires-clause-sound
 run_steps-requires-clause-sound c =
-    sound c.args.trace.now _ c.read_setup-read.ensures c.if-no-ne0.false _ c.shape_of.ensures (λ j. omega (arith, c.type_inv.trace j))
+    sound _ _ c.in_ok-setup.ensures _ c.shape_of.ensures (λ j. omega (arith, c.type_inv.trace j))
 
 pub run_steps-requires-clause-starts : goal.run_steps-requires-clause-starts
-run_steps-requires-clause-starts c = starts c.args.trace.now _ c.read_setup-read.ensures c.if-no-ne0.false _ c.shape_of.ensures
+run_steps-requires-clause-starts c = starts _ _ c.in_ok-setup.ensures _ c.shape_of.ensures
+
+pub run_steps-requires-clause-short : goal.run_steps-requires-clause-short
+run_steps-requires-clause-short c = rw c.from.ensures (short c.args.trace.now c.args.report.now c.in_ok-setup.ensures)
+
+pub run_steps-requires-clause-room : goal.run_steps-requires-clause-room
+run_steps-requires-clause-room c = rw c.shape_of.ensures (room_for_lines c.args.trace.now c.args.report.now c.in_ok-setup.ensures)
 
 pub returns : goal.returns
-returns c =
-    c.run_steps.ensures
-    ∙ goes_on c.args.trace.now _ c.read_setup-read.ensures c.if-no-ne0.false _ c.shape_of.ensures c.args.report.now (omega arith)
-    (omega (arith, c.if-rest.false))
+returns c = c.run_steps.ensures ∙ rw c.from.ensures (goes_on c.args.trace.now c.args.report.now c.in_ok-setup.ensures _ c.shape_of.ensures)
