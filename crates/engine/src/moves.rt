@@ -6,6 +6,7 @@ ghost use Rattle.model.specs.Memory.{flag_at};
 ghost use Rattle.model.specs.Run.{row_of, move, after};
 ghost use Rattle.engine.specs.Stepped.{Numbered, Due};
 
+use bank::Bank;
 use model::{Place, Shape, Shared, State};
 use routine::takes;
 use steps::Step;
@@ -29,58 +30,30 @@ fn make_move(shape: Shape, i: ProcessNumber, tick: u32, state: &mut State)
     ensures { state.new ≡ move shape state.old i tick }
 {
     state.newest = tick;
-    let bank = &mut state.bank;
+    let Bank {
+        values,
+        deadlines,
+        last,
+    } = &mut state.bank;
     let row = &mut state.rows[(i.0 - 1) as usize];
     let c = row.local.slot;
     match row.local.place {
         Place::Rest => takes::rest(shape, row),
         Place::Look => {
-            let v = registers::read_granted(
-                &bank.values,
-                &mut bank.deadlines,
-                &mut bank.last,
-                i,
-                c,
-                tick,
-                shape.delta,
-            );
+            let v = registers::read_granted(values, deadlines, last, i, c, tick, shape.delta);
             takes::look(shape, v, row);
         }
         Place::Put => {
-            let late = registers::write_granted(
-                &mut bank.values,
-                &mut bank.deadlines,
-                &mut bank.last,
-                i,
-                c,
-                tick,
-                row.own,
-            );
+            let late = registers::write_granted(values, deadlines, last, i, c, tick, row.own);
             takes::put(shape, late, row);
         }
         Place::Wait => takes::wait(shape, tick, row),
         Place::Check => {
-            let v = registers::read_granted(
-                &bank.values,
-                &mut bank.deadlines,
-                &mut bank.last,
-                i,
-                c,
-                tick,
-                Wait::UNLIMITED,
-            );
+            let v = registers::read_granted(values, deadlines, last, i, c, tick, Wait::UNLIMITED);
             takes::check(shape, v, row);
         }
         Place::Critical => {
-            let late = registers::write_granted(
-                &mut bank.values,
-                &mut bank.deadlines,
-                &mut bank.last,
-                i,
-                c,
-                tick,
-                0,
-            );
+            let late = registers::write_granted(values, deadlines, last, i, c, tick, 0);
             takes::critical(shape, late, row);
         }
         Place::Flag => {
