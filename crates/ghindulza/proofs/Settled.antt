@@ -1,13 +1,12 @@
 -- Each promise of the surface settles its outcome: the number returned, and every number and byte lent. (`Settles` has the meaning.)
 -- Assumes nothing.
 use Prim.Native.Nat.{ℕ}
-use mathlib.Core.Path.{◌≡◌, refl, sym, ◌∙◌}
+use mathlib.Core.Path.{◌≡◌, refl, sym, ap, ◌∙◌}
 use mathlib.Core.List.{List}
 use Rattle.terms.proofs.Settles.{Settles}
 use Rattle.bank.specs.declared.Bank.{Bank}
 use Rattle.bank.specs.Registers.{bank_of}
-use Rattle.records.specs.declared.Written.{Written}
-use Rattle.ghindulza.specs.Surface.{ran_out, SetupOut, StepOut, BankOut}
+use Rattle.ghindulza.specs.Surface.{ran_out, SetupOut, StepOut, WrittenOut, written_out, BankOut}
 use Rattle.ghindulza.proofs.ghindulza_run.Kinds as run_kinds
 use Rattle.ghindulza.proofs.ghindulza_run.Reads as run_reads
 use Rattle.ghindulza.proofs.ghindulza_read_setup.Kinds as read_setup_kinds
@@ -38,8 +37,8 @@ abbrev step_left : ℕ → List ℕ → StepOut
 step_left number fields = record { number = number; fields = fields }
 
 -- what a writer answers
-abbrev written : ℕ → ℕ → Written
-written number length = record { refusal = number; len = length }
+abbrev written : ℕ → ℕ → WrittenOut
+written number length = record { number = number; length = length }
 
 pub read_setup_settles : Settles 4 read_setup_kinds.ps read_setup_kinds.r read_setup_reads.Post
 read_setup_settles κs a x y u v p q =
@@ -53,15 +52,15 @@ read_step_settles κs a x y u v p q =
 
 pub write_setup_settles : Settles 3 write_setup_kinds.ps write_setup_kinds.r write_setup_reads.Post
 write_setup_settles κs a x y u v p q =
-    let e : written x u.1.1.1.1.1.0 ≡ written y v.1.1.1.1.1.0 = p.answer ∙ sym q.answer in
-    let f : u.0 ≡ v.0 = p.buffer ∙ sym q.buffer in
-    ((λ k. (e k).refusal), (λ k. (f k, (tt, (tt, (tt, (tt, ((e k).len, tt))))))))
+    let e : written x u.1.1.1.1.1.0 ≡ written y v.1.1.1.1.1.0 = p.told ∙ ap written_out (p.left.answer ∙ sym q.left.answer) ∙ sym q.told in
+    let f : u.0 ≡ v.0 = p.left.buffer ∙ sym q.left.buffer in
+    ((λ k. (e k).number), (λ k. (f k, (tt, (tt, (tt, (tt, ((e k).length, tt))))))))
 
 pub write_step_settles : Settles 2 write_step_kinds.ps write_step_kinds.r write_step_reads.Post
 write_step_settles κs a x y u v p q =
-    let e : written x u.1.1.1.1.0 ≡ written y v.1.1.1.1.0 = p.answer ∙ sym q.answer in
-    let f : u.0 ≡ v.0 = p.buffer ∙ sym q.buffer in
-    ((λ k. (e k).refusal), (λ k. (f k, (tt, (tt, (tt, ((e k).len, tt)))))))
+    let e : written x u.1.1.1.1.0 ≡ written y v.1.1.1.1.0 = p.told ∙ ap written_out (p.left.answer ∙ sym q.left.answer) ∙ sym q.told in
+    let f : u.0 ≡ v.0 = p.left.buffer ∙ sym q.left.buffer in
+    ((λ k. (e k).number), (λ k. (f k, (tt, (tt, (tt, ((e k).length, tt)))))))
 
 pub bank_fresh_settles : Settles 3 bank_fresh_kinds.ps bank_fresh_kinds.r bank_fresh_reads.Post
 bank_fresh_settles κs a x y u v p q =

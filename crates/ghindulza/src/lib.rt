@@ -5,16 +5,18 @@
 ghost use Rattle.std.specs.Prelude.{◌≡◌};
 ghost use Rattle.terms.specs.Limits.{most_processes};
 ghost use Rattle.terms.specs.Numbers.{process_of, slot_of};
+ghost use Rattle.terms.specs.Refusal.{numbered};
 ghost use Rattle.bank.specs.Registers.{bank_of, fresh_bank};
 ghost use Rattle.bank.specs.Calls.{read_of, write_of};
 ghost use Rattle.setups.specs.Setup.{WroteSetup};
 ghost use Rattle.steps.specs.Step.{step_read, WroteStep};
 ghost use Rattle.model.specs.Report.{ran_of};
-ghost use Rattle.ghindulza.specs.Surface.{ran_out, setup_out, step_out, step_of, answer_code, read_out, write_out};
+ghost use Rattle.ghindulza.specs.Surface.{ran_out, setup_out, step_out, step_of, written_out, Told, answer_code, read_out, write_out};
 
 use answers::WriteAnswer;
 use bank::calls;
 use engine::runs;
+use records::Written;
 use registers::{PAIRS, REGISTERS};
 use setups::PLACES;
 use steps::Step;
@@ -27,9 +29,16 @@ use terms::{ProcessNumber, SlotNumber, Wait};
 pub extern "C" fn ghindulza_run(trace: &[u8], report: &mut [u32], record: &mut u32) -> u32
     ensures { ran_out result «record».new report.new ≡ ran_of most_processes trace.now report.old }
 {
-    let outcome = runs::run(trace, report);
-    *record = outcome.at;
-    outcome.number
+    match runs::run(trace, report) {
+        Ok(accepted) => {
+            *record = accepted;
+            0
+        }
+        Err(refused) => {
+            *record = refused.at;
+            u32::from(refused.refusal)
+        }
+    }
 }
 
 // RECORDS
@@ -45,34 +54,60 @@ pub extern "C" fn ghindulza_read_setup(
     ensures { record { number = result; fields = fields.new; starts = starts.new; rest = rest.new }
         ≡ setup_out bytes.now }
 {
-    let read = setups::read_setup(bytes);
-    let setup = read.setup;
-    let places = setup.starts;
-    *fields = [
-        setup.kind as u32,
-        setup.processes as u32,
-        setup.size as u32,
-        0,
-        setup.delta as u32,
-    ];
-    *starts = places;
-    if read.refusal != 0 {
-        *rest = [0, 0];
-        return read.refusal;
+    match setups::read_setup(bytes) {
+        Ok(setup) => {
+            let start = 8 + usize::from(setup.processes);
+            *fields = [
+                u32::from(setup.kind),
+                u32::from(setup.processes),
+                u32::from(setup.size),
+                0,
+                u32::from(setup.delta),
+            ];
+            let places = setup.starts;
+            *starts = places;
+            *rest = [start as u64, (bytes.len() - start) as u64];
+            0
+        }
+        Err(refusal) => {
+            *fields = [0; 5];
+            *starts = [0; PLACES];
+            *rest = [0; 2];
+            u32::from(refusal)
+        }
     }
-    let start = 8 + setup.processes as usize;
-    *rest = [start as u64, (bytes.len() - start) as u64];
-    0
 }
 
 #[unsafe(no_mangle)]
 pub extern "C" fn ghindulza_read_step(bytes: &[u8], fields: &mut [u32; 3]) -> u32
     ensures { record { number = result; fields = fields.new } ≡ step_out (step_read most_processes bytes.now) }
 {
-    let answer = steps::read_step(bytes);
-    let step = answer.step;
-    *fields = [step.process.0, step.event, step.tick];
-    answer.refusal
+    match steps::read_step(bytes) {
+        Ok(step) => {
+            *fields = [step.process.0, step.event, step.tick];
+            0
+        }
+        Err(refusal) => {
+            *fields = [0; 3];
+            u32::from(refusal)
+        }
+    }
+}
+
+// What a writer answered: the record's length, 0 where it is refused.
+fn tell(written: Written, length: &mut u64) -> u32
+    ensures { record { number = result; length = length.new } ≡ written_out (numbered written) }
+{
+    match written {
+        Ok(len) => {
+            *length = len as u64;
+            0
+        }
+        Err(refusal) => {
+            *length = 0;
+            u32::from(refusal)
+        }
+    }
 }
 
 #[unsafe(no_mangle)]
@@ -84,12 +119,10 @@ pub extern "C" fn ghindulza_write_setup(
     starts: &[u8],
     length: &mut u64,
 ) -> u32
-    ensures { WroteSetup most_processes kind size delta starts.now buffer.old
-        (record { refusal = result; len = length.new }) buffer.new }
+    ensures { Told (WroteSetup most_processes kind size delta starts.now buffer.old) result length.new buffer.new }
 {
     let written = setups::write_setup(kind, size, delta, starts, buffer);
-    *length = written.len as u64;
-    written.refusal
+    tell(written, length)
 }
 
 #[unsafe(no_mangle)]
@@ -100,8 +133,7 @@ pub extern "C" fn ghindulza_write_step(
     tick: u32,
     length: &mut u64,
 ) -> u32
-    ensures { WroteStep most_processes (step_of process event tick) buffer.old
-        (record { refusal = result; len = length.new }) buffer.new }
+    ensures { Told (WroteStep most_processes (step_of process event tick) buffer.old) result length.new buffer.new }
 {
     let step = Step {
         process: ProcessNumber(process),
@@ -109,20 +141,18 @@ pub extern "C" fn ghindulza_write_step(
         tick,
     };
     let wrote = steps::write_step(step, buffer);
-    *length = wrote.len as u64;
-    wrote.refusal
+    tell(wrote, length)
 }
 
 // THE BANK
 
 // 1 for done, 2 for late, 0 for neither.
 fn answer_code(answer: WriteAnswer) -> u32
-    ensures { result ≡ answer_code answer }
+    ensures { result ≡ answer_code (numbered answer) }
 {
     match answer {
-        WriteAnswer::Done => 1,
-        WriteAnswer::Late => 2,
-        WriteAnswer::Refused(_) => 0,
+        Ok(write) => write as u32,
+        Err(_) => 0,
     }
 }
 
@@ -163,8 +193,8 @@ pub extern "C" fn ghindulza_bank_read(
         tick,
         wait,
     );
-    *value = found.value();
-    found.number()
+    *value = answers::value(found);
+    answers::number(found)
 }
 
 #[unsafe(no_mangle)]
@@ -191,5 +221,5 @@ pub extern "C" fn ghindulza_bank_write(
         value,
     );
     *answer = answer_code(found);
-    found.number()
+    answers::number(found)
 }

@@ -1,12 +1,15 @@
 -- `ghindulza::ghindulza_read_setup` meets its contract: the outcomes of SetupParts. Assumes nothing.
-use Rattle.ghindulza.proofs.SetupParts.{setup_parts}
+use Rattle.std.proofs.Common.{rules, ◌∙◌, arith}
+use Rattle.ghindulza.proofs.SetupParts.{rest_within, setup_accepted, setup_refused}
 use Rattle.ghindulza.proofs.ghindulza_read_setup.Goals as goal
 
-pub returns-then-read-ne0 : goal.returns-then-read-ne0
-returns-then-read-ne0 c = search setup_parts
-
 pub overflow_sub-rest : goal.overflow_sub-rest
-overflow_sub-rest c = search setup_parts
+overflow_sub-rest c = omega (arith, rest_within c.args.bytes.now c.in-Ok.ensures, c.from-start.ensures)
 
-pub returns : goal.returns
-returns c = search setup_parts
+pub returns-in-Ok : goal.returns-in-Ok
+returns-in-Ok c =
+    rw (c.from.ensures, c.from-in-Ok.ensures, c.from-in-Ok-2.ensures, c.from-in-Ok-3.ensures, c.from-start.ensures)
+    (setup_accepted c.args.bytes.now c.in-Ok.ensures)
+
+pub returns-in-Err : goal.returns-in-Err
+returns-in-Err c = rw c.from-in-Err.ensures (setup_refused c.args.bytes.now c.in-Err.ensures)
