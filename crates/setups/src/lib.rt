@@ -1,5 +1,9 @@
 // The setup record: mark, kind, n, ℓ or b, a zero byte, Δ, and n start bytes. 8 + n bytes.
-#![tactic(auto, using(terms::proofs::RefusalLaws::stops, terms::proofs::RefusalLaws::goes_on), unfolding(crate::specs::Setup::bad_size, crate::specs::Setup::setup_refusal))]
+#![tactic(
+    auto,
+    using(terms::proofs::RefusalLaws::stops, terms::proofs::RefusalLaws::goes_on),
+    unfolding(crate::specs::Setup::bad_size, crate::specs::Setup::setup_refusal)
+)]
 
 ghost use Rattle.std.specs.Prelude.{◌≡◌, ◌+◌, ◌≤◌, length};
 ghost use Rattle.terms.specs.Limits.{most_processes};
@@ -176,7 +180,11 @@ pub fn setup_rest(trace: &[u8]) -> &[u8]
 // WRITING
 
 // 3, 4, 5, 6, 19 of a setup that is to be written to a buffer of `room` bytes.
-#[tactic(auto, using(terms::proofs::RefusalLaws::stops, terms::proofs::RefusalLaws::goes_on, crate::proofs::SetupLaws::limits_small), unfolding(crate::specs::Setup::setup_write_refusal))]
+#[tactic(
+    auto,
+    using(terms::proofs::RefusalLaws::stops, terms::proofs::RefusalLaws::goes_on, crate::proofs::SetupLaws::limits_small),
+    unfolding(crate::specs::Setup::setup_write_refusal)
+)]
 fn setup_write_refusal(
     most: u32,
     kind: u32,
