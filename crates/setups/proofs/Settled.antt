@@ -17,7 +17,9 @@ pub read_setup_settles : Settles 1 read_setup_kinds.ps read_setup_kinds.r read_s
 read_setup_settles κs a x y u v p q = (numbers_settle x y (p ∙ sym q), refl)
 
 pub write_setup_settles : Settles 2 write_setup_kinds.ps write_setup_kinds.r write_setup.Post
-write_setup_settles κs a x y u v p q = let e = p.buffer ∙ sym q.buffer in (numbers_settle x y (p.answer ∙ sym q.answer), (λ k. (tt, (tt, (tt, (tt, (e k, tt)))))))
+write_setup_settles κs a x y u v p q =
+    let e = p.buffer ∙ sym q.buffer in
+    (numbers_settle x y (p.answer ∙ sym q.answer), (λ k. (tt, (tt, (tt, (tt, (e k, tt)))))))
 
 -- A returned part has a place (its one machine value), its bytes, and a name under which proofs keep track of them. A new part gets a new name,
 -- which no promise can settle; the place and the bytes are settled (the exception in docs/DECISIONS.md).

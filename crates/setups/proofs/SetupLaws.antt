@@ -17,7 +17,8 @@ use Rattle.terms.specs.Limits.{most_slots}
 use Rattle.terms.specs.Little.{AllBytes}
 use Rattle.terms.specs.Refusal.{any_from, if_accepted, number, refusal_in, numbered}
 use Rattle.terms.specs.declared.Refusal.{Refusal}
-use Rattle.terms.proofs.RefusalLaws.{if_refused, then_both, passed, refuse-false, both_false, not_outside, inside, ok_is_no_error, some_number}
+use Rattle.terms.proofs.RefusalLaws.{if_refused, then_both, passed, refuse-false, both_false, not_outside, inside}
+use Rattle.terms.proofs.RefusalLaws.{ok_is_no_error, some_number, stops, goes_on}
 use Rattle.kinds.specs.declared.Kind.{Kind}
 use Rattle.kinds.specs.Kinds.{last_kind, kind_of}
 use Rattle.records.specs.Record.{byte}
@@ -101,6 +102,9 @@ module _ (most kind n size spare : ℕ) where
   -- and as the writer's cast asks
   pub limits_small : 0 ≡ setup_limits most kind n size spare → size ≤ most_slots
   limits_small h = (limits_size (limits_said (sym h))).1
+
+-- what decides a chain of `?`
+pub ruleset decided = (stops, goes_on, limits_small)
 
 -- READING
 

@@ -1,5 +1,5 @@
 // The setup record: mark, kind, n, ℓ or b, a zero byte, Δ, and n start bytes. 8 + n bytes.
-#![tactic(auto, using(terms::proofs::RefusalLaws::stops, terms::proofs::RefusalLaws::goes_on), unfolding(crate::specs::Setup::bad_size, crate::specs::Setup::setup_refusal))]
+#![tactic(auto, using(crate::proofs::SetupLaws::decided), unfolding(crate::specs::Setup::setup_refusal, crate::specs::Setup::setup_write_refusal))]
 
 ghost use Rattle.std.specs.Prelude.{◌≡◌, ◌+◌, ◌≤◌, length};
 ghost use Rattle.terms.specs.Limits.{most_processes};
@@ -35,6 +35,7 @@ fn is_out_of_limits(size: u32, spare: u32) -> bool
     !(1..=Trace::SLOTS).contains(&size) || spare != 0
 }
 
+#[tactic(auto, unfolding(crate::specs::Setup::bad_size))]
 fn is_bad_size(kind: Kind, n: usize, size: u32, spare: u32) -> bool
     ensures { result ≡ bad_size kind n size spare }
 {
@@ -176,7 +177,6 @@ pub fn setup_rest(trace: &[u8]) -> &[u8]
 // WRITING
 
 // 3, 4, 5, 6, 19 of a setup that is to be written to a buffer of `room` bytes.
-#[tactic(auto, using(terms::proofs::RefusalLaws::stops, terms::proofs::RefusalLaws::goes_on, crate::proofs::SetupLaws::limits_small), unfolding(crate::specs::Setup::setup_write_refusal))]
 fn setup_write_refusal(
     most: u32,
     kind: u32,
