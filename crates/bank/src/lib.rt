@@ -44,7 +44,11 @@ impl Bank {
     pub fn read(mut self, i: ProcessNumber, c: SlotNumber, t: u32, d: u32) -> Called<u32>
         ensures { record { bank = result.bank; answer = numbered result.answer } ≡ read_of self i c t d }
     {
-        let Bank { values, deadlines, last } = &mut self;
+        let Bank {
+            values,
+            deadlines,
+            last,
+        } = &mut self;
         let answer = calls::read_in(values, deadlines, last, i, c, t, d);
         Called { bank: self, answer }
     }
@@ -53,7 +57,11 @@ impl Bank {
     pub fn write(mut self, i: ProcessNumber, c: SlotNumber, t: u32, v: u32) -> Called<Write>
         ensures { record { bank = result.bank; answer = numbered result.answer } ≡ write_of self i c t v }
     {
-        let Bank { values, deadlines, last } = &mut self;
+        let Bank {
+            values,
+            deadlines,
+            last,
+        } = &mut self;
         let answer = calls::write_in(values, deadlines, last, i, c, t, v);
         Called { bank: self, answer }
     }

@@ -6,16 +6,16 @@ use mathlib.Core.List.{List}
 use native.Mathlib.Omega.{arith}
 use borrow.Author.Tests.{lt-ltb, le-ltb}
 use lib.ListN.{length, take, drop, length-drop}
-use Rattle.std.specs.Prelude.{Result, Ok, Err}
+use Rattle.std.specs.Prelude.{Ok, Err}
 use Rattle.terms.specs.declared.Refusal.{Refusal}
 use Rattle.terms.specs.Limits.{most_processes, most_steps}
-use Rattle.terms.specs.Refusal.{if_accepted, number}
+use Rattle.terms.specs.Refusal.{number}
 use Rattle.terms.proofs.Parts.{part_to_end}
 use Rattle.terms.proofs.RefusalLaws.{then_stop, if_refused, some_number, accepted_says, refused_says}
 use Rattle.setups.specs.declared.Setup.{Setup}
 use Rattle.records.specs.Record.{byte}
 use Rattle.setups.specs.Setup.{setup_refusal, setup_fields, setup_read}
-use Rattle.setups.proofs.SetupLaws.{setup_said}
+use Rattle.setups.proofs.SetupLaws.{setup_said, setup_was_read, setup_was_refused}
 use Rattle.model.specs.declared.Shape.{Shape}
 use Rattle.model.specs.Bounds.{Bytes, Sound, Starts}
 use Rattle.model.specs.Sizes.{line_width}
@@ -29,19 +29,17 @@ use Rattle.engine.specs.Stepped.{set_up, ran_from}
 
 module _ (trace : List ℕ) (room : ℕ) where
   pub unset : {k : ℕ} → Err k ≡ setup_read most_processes trace → Err k ≡ set_up trace room
-  unfolding setup_read run_refusal
+  unfolding run_refusal
   unset {k} e =
-      let r = refused_says (setup_refusal most_processes trace) (setup_fields most_processes trace) (sym e) in
+      let r = setup_was_refused most_processes trace e in
       rw (r.0, then_stop k r.1, then_stop k r.1) (sym (if_refused k r.1 _ _))
 
   module _ {f : Setup} (read : Ok f ≡ setup_read most_processes trace) where
     passed : setup_refusal most_processes trace ≡ 0
-    unfolding setup_read
-    passed = (accepted_says (setup_refusal most_processes trace) (setup_fields most_processes trace) (sym read)).0
+    passed = (setup_was_read most_processes trace read).0
 
     fields : f ≡ setup_fields most_processes trace
-    unfolding setup_read
-    fields = (accepted_says (setup_refusal most_processes trace) (setup_fields most_processes trace) (sym read)).1
+    fields = (setup_was_read most_processes trace read).1
 
     count : f.processes ≡ byte 3 trace
     count = ap (λ (x : Setup). x.processes) fields
@@ -57,14 +55,20 @@ module _ (trace : List ℕ) (room : ℕ) where
       pub too_long : 8 * most_steps < length trace - (8 + f.processes) → Err 8 ≡ set_up trace room
       unfolding run_refusal
       too_long h =
-          rw (passed, le-ltb room (line_width * byte 3 trace) (omega (arith, count)),
-            lt-ltb (8 * most_steps) (length (rest_of trace)) (omega (arith, count, length-drop (8 + byte 3 trace) trace)))
+          rw (
+            passed,
+            le-ltb room (line_width * byte 3 trace) (omega (arith, count)),
+            lt-ltb (8 * most_steps) (length (rest_of trace)) (omega (arith, count, length-drop (8 + byte 3 trace) trace)),
+          )
 
       pub sets_up : length trace - (8 + f.processes) ≤ 8 * most_steps → Ok f ≡ set_up trace room
       unfolding run_refusal
       sets_up h =
-          rw (passed, le-ltb room (line_width * byte 3 trace) (omega (arith, count)),
-            le-ltb (8 * most_steps) (length (rest_of trace)) (omega (arith, count, length-drop (8 + byte 3 trace) trace)))
+          rw (
+            passed,
+            le-ltb room (line_width * byte 3 trace) (omega (arith, count)),
+            le-ltb (8 * most_steps) (length (rest_of trace)) (omega (arith, count, length-drop (8 + byte 3 trace) trace)),
+          )
           (ap Ok fields)
 
 -- THEN THE RECORDS
@@ -72,15 +76,15 @@ module _ (trace : List ℕ) (room : ℕ) where
 module _ (trace old : List ℕ) where
   pub refused_first : (e : Refusal) → Err (number e) ≡ set_up trace (length old) → refused_run (number e) 0 old ≡ ran_of most_processes trace old
   refused_first e h =
-      let r = refused_says (run_refusal most_processes trace (length old)) (setup_fields most_processes trace) (sym h) in
+      let r = refused_says (run_refusal most_processes trace (length old)) (setup_fields most_processes trace) h in
       ran_refused_first most_processes trace old (sym r.0) (some_number e)
 
   module _ {f : Setup} (set : Ok f ≡ set_up trace (length old)) where
     accepted : run_refusal most_processes trace (length old) ≡ 0
-    accepted = (accepted_says (run_refusal most_processes trace (length old)) (setup_fields most_processes trace) (sym set)).0
+    accepted = (accepted_says (run_refusal most_processes trace (length old)) (setup_fields most_processes trace) set).0
 
     fields' : f ≡ setup_fields most_processes trace
-    fields' = (accepted_says (run_refusal most_processes trace (length old)) (setup_fields most_processes trace) (sym set)).1
+    fields' = (accepted_says (run_refusal most_processes trace (length old)) (setup_fields most_processes trace) set).1
 
     count' : f.processes ≡ byte 3 trace
     count' = ap (λ (x : Setup). x.processes) fields'

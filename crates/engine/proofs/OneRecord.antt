@@ -26,15 +26,15 @@ module _ (u : Shape) (x : State) (s : List ℕ) where
   pub unread : {k : ℕ} → Err k ≡ step_read u.count s → k ≡ record_refusal u x s
   unfolding record_refusal
   unread e =
-      let r = step_was_refused u.count s (sym e) in
+      let r = step_was_refused u.count s e in
       sym (then_stop _ (λ z. r.1 (sym r.0 ∙ z)) _ ∙ r.0)
 
   module _ {k : Step} (read : Ok k ≡ step_read u.count s) where
     fields : k ≡ step_fields s
-    fields = (step_was_read u.count s (sym read)).1
+    fields = (step_was_read u.count s read).1
 
     passed : step_refusal u.count s ≡ 0
-    passed = (step_was_read u.count s (sym read)).0
+    passed = (step_was_read u.count s read).0
 
     said : AcceptedStep u.count s
     said = step_said u.count s passed

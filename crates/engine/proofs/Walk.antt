@@ -16,7 +16,7 @@ use Rattle.model.specs.declared.State.{State}
 use Rattle.model.specs.declared.Refused.{Refused}
 use Rattle.model.specs.Routine.{routine}
 use Rattle.model.specs.Bounds.{Sound}
-use Rattle.model.specs.Run.{fresh, after, record_refusal, record_at, step_at, reach, records, Progress, Progress.going, Progress.stopped}
+use Rattle.model.specs.Run.{fresh, after, record_refusal, record_at, step_at, reach, records, Progress, Progress.going}
 use Rattle.model.specs.Report.{lines, outcome_of, report_of}
 use Rattle.model.proofs.RunLaws.{reach_refused, reach_accepted, reach_stays, records_past}
 use Rattle.model.proofs.Rooms.{reach_room}

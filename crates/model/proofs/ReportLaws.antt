@@ -1,23 +1,17 @@
 -- Laws of the report, and of what a run returns and leaves, as code meets them: a line more; a run that is refused before its first record,
 -- or that goes on to its records.
 -- Assumes nothing.
-use Prim.Native.Nat.{ℕ, zero, suc, ◌+◌, ◌*◌, ◌≤◌, ◌<◌}
+use Prim.Native.Nat.{ℕ, zero, suc, ◌+◌, ◌*◌, ◌≤◌}
 use mathlib.Core.Path.{◌≡◌, refl, sym, ap, ap₂, ◌∙◌}
 use mathlib.Core.List.{List, ◌++◌, append_assoc}
 use native.Mathlib.Nat.{zero-add}
 use native.Mathlib.Numerals.{add-one, add-two, add-three}
 use native.Mathlib.Omega.{arith}
-use borrow.Author.Tests.{lt-ltb, le-ltb}
-use lib.Dec.{ltb}
 use lib.ListN.{length, take, drop, get_or, set, length-append}
 use lib.Seq.{sets-eq}
-use Rattle.terms.specs.Limits.{most_steps}
 use Rattle.terms.specs.Overlay.{overlay, spliced}
-use Rattle.terms.specs.Refusal.{refuse}
 use Rattle.terms.proofs.OverlayLaws.{spliced_front, spliced_then}
 use Rattle.terms.proofs.RefusalLaws.{some_number, same_name}
-use Rattle.records.specs.Record.{byte}
-use Rattle.setups.specs.Setup.{setup_refusal}
 use Rattle.model.specs.declared.Shape.{Shape}
 use Rattle.std.specs.Prelude.{Result, Ok, Err}
 use Rattle.model.specs.declared.Refused.{Refused}

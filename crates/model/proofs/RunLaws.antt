@@ -8,12 +8,11 @@ use native.Mathlib.Nat.{add-zero, add-suc}
 use native.Mathlib.Omega.{arith}
 use lib.ListN.{length, length-drop}
 use Rattle.terms.specs.Refusal.{if_accepted}
-use Rattle.terms.proofs.RefusalLaws.{then_on, then_stop, then_both, if_accepted_lem, if_refused}
-use Rattle.steps.specs.Step.{step_refusal, step_fields}
+use Rattle.terms.proofs.RefusalLaws.{then_both, if_accepted_lem, if_refused}
 use Rattle.steps.proofs.StepLaws.{step_said}
 use Rattle.model.specs.declared.Shape.{Shape}
 use Rattle.model.specs.declared.State.{State}
-use Rattle.model.specs.Run.{Progress, Progress.going, Progress.stopped, row_of, after, judge, record_refusal, Tape, advance, follow, run_on, step_at}
+use Rattle.model.specs.Run.{Progress, Progress.going, Progress.stopped, after, record_refusal, Tape, advance, follow, run_on, step_at}
 use Rattle.model.specs.Run.{step_tape, reach, records}
 use Rattle.model.specs.Run.{rest_of, run_refusal, reached, run_of}
 pub use Rattle.model.specs.Run.{record_at}

@@ -12,12 +12,11 @@ use lib.Seq.{take_all, get_or-take, get_or-drop, get_or-append-add}
 use lib.Dec.{ltb}
 use Rattle.std.specs.Prelude.{Result, Ok, Err}
 use Rattle.std.specs.List.{list_any}
-use Rattle.std.specs.Result.{result_unwrap_or}
 use Rattle.terms.specs.Limits.{most_slots}
 use Rattle.terms.specs.Little.{AllBytes}
-use Rattle.terms.specs.Refusal.{any_from, if_accepted, number, refusal_in, numbered}
+use Rattle.terms.specs.Refusal.{any_from, number, refusal_in, numbered}
 use Rattle.terms.specs.declared.Refusal.{Refusal}
-use Rattle.terms.proofs.RefusalLaws.{if_refused, then_both, passed, refuse-false, both_false, not_outside, inside}
+use Rattle.terms.proofs.RefusalLaws.{if_refused, then_both, passed, refuse-false, both_false, not_outside, inside, accepted_says, refused_says}
 use Rattle.terms.proofs.RefusalLaws.{ok_is_no_error, some_number, stops, goes_on}
 use Rattle.kinds.specs.declared.Kind.{Kind}
 use Rattle.kinds.specs.Kinds.{last_kind, kind_of}
@@ -185,29 +184,21 @@ module _ (most : ℕ) (s : List ℕ) where
   unfolding setup_rest rest_start
   rest_refused k e h = (simp (e, if_refused k h), simp (e, if_refused k h))
 
-  read_ok : (x : Setup) → Ok x ≡ setup_read most s → (setup_refusal most s ≡ 0) × (x ≡ setup_fields most s)
+  -- what is said by a setup that was read, or a refusal
+  pub setup_was_read : {x : Setup} → Ok x ≡ setup_read most s → (setup_refusal most s ≡ 0) × (x ≡ setup_fields most s)
   unfolding setup_read
-  read_ok x = by (setup_refusal most s)
-    where
-      by : (k : ℕ) → Ok x ≡ if_accepted k (Ok (setup_fields most s)) (Err k) → (k ≡ 0) × (x ≡ setup_fields most s)
-      by zero e = (refl, ap (λ r. result_unwrap_or r x) e)
-      by (suc k) e = absurd (ok_is_no_error e)
+  setup_was_read e = accepted_says (setup_refusal most s) (setup_fields most s) e
 
-  read_err : (k : ℕ) → Err k ≡ setup_read most s → setup_refusal most s ≡ k
+  pub setup_was_refused : {k : ℕ} → Err k ≡ setup_read most s → (setup_refusal most s ≡ k) × (k ≡ 0 → ⊥)
   unfolding setup_read
-  read_err k = by (setup_refusal most s)
-    where
-      by : (j : ℕ) → Err k ≡ if_accepted j (Ok (setup_fields most s)) (Err j) → j ≡ k
-      by zero e = absurd (ok_is_no_error (sym e))
-      by (suc j) e = sym (ap (λ r. elim r [ Ok x ↦ 0 | Err i ↦ i ]) e)
+  setup_was_refused e = refused_says (setup_refusal most s) (setup_fields most s) e
 
-  -- of what a reader answered: its refusal is the table's, and where it is a setup its fields are the trace's
   pub setup_refusal_read : (r : Result Setup Refusal) → numbered r ≡ setup_read most s → setup_refusal most s ≡ refusal_in r
-  setup_refusal_read (Ok x) e = (read_ok x e).0
-  setup_refusal_read (Err d) e = read_err (number d) e
+  setup_refusal_read (Ok x) e = (setup_was_read e).0
+  setup_refusal_read (Err d) e = (setup_was_refused e).0
 
   pub setup_fields_read : (r : Result Setup Refusal) → numbered r ≡ setup_read most s → {x : Setup} → r ≡ Ok x → x ≡ setup_fields most s
-  setup_fields_read r e {x} h = (read_ok x (ap numbered (sym h) ∙ e)).1
+  setup_fields_read r e {x} h = (setup_was_read (ap numbered (sym h) ∙ e)).1
 
 -- START BYTES
 

@@ -39,7 +39,7 @@ module _ (k : Step) (before after : List ℕ) (r : Result ℕ ℕ)
 module _ (most : ℕ) (s : List ℕ) (bytes : AllBytes s) {k : Step} (ok : step_read most s ≡ Ok k) where
   pub step_again : step_bytes k ≡ take 8 s
   step_again =
-      let said = step_was_read most s ok in
+      let said = step_was_read most s (sym ok) in
       let h = step_said most s said.0 in
       let small = byte_small s bytes in
       let tick = little_bytes_of (byte 4 s ∷ byte 5 s ∷ byte 6 s ∷ byte 7 s ∷ []) (small 4, (small 5, (small 6, (small 7, tt)))) in
@@ -51,7 +51,7 @@ module _ (s : List ℕ) (bytes : AllBytes s) {k : Step} (ok : step_read most_pro
     (room : 8 ≤ length before) (w : WroteStep most_processes k before r after) where
   pub step_rewritten : (r ≡ Ok 8) × (after ≡ take 8 s ++ drop 8 before)
   step_rewritten =
-      let said = step_was_read most_processes s ok in
+      let said = step_was_read most_processes s (sym ok) in
       let limits = (step_said most_processes s said.0).limits in
       let p = wrote_whole _ _ before r after w (said_step_write most_processes _ (length before) (record { limits = rw said.1 limits; fits = room })) in
       (p.0, p.1 ∙ ap (λ (l : List ℕ). l ++ drop 8 before) (step_again most_processes s bytes ok))

@@ -82,11 +82,11 @@ module _ (most : ℕ) (s : List ℕ) where
   step_accepted e = simp e
 
   -- and what is said by a step that was read, or a refusal
-  pub step_was_read : {k : Step} → step_read most s ≡ Ok k → (step_refusal most s ≡ 0) × (k ≡ step_fields s)
+  pub step_was_read : {k : Step} → Ok k ≡ step_read most s → (step_refusal most s ≡ 0) × (k ≡ step_fields s)
   unfolding step_read
   step_was_read e = accepted_says (step_refusal most s) (step_fields s) e
 
-  pub step_was_refused : {x : ℕ} → step_read most s ≡ Err x → (step_refusal most s ≡ x) × (x ≡ 0 → ⊥)
+  pub step_was_refused : {x : ℕ} → Err x ≡ step_read most s → (step_refusal most s ≡ x) × (x ≡ 0 → ⊥)
   unfolding step_read
   step_was_refused e = refused_says (step_refusal most s) (step_fields s) e
 

@@ -3,17 +3,15 @@
 use mathlib.Core.Path.{◌≡◌, refl, sym, ap, ◌∙◌}
 use mathlib.Core.Bool.{Bool, true, false, ◌||◌, ◌&&◌, true≢false, false≢true}
 use mathlib.Core.List.{List, [], ◌∷◌}
-use Prim.Native.Nat.{ℕ, zero, suc, ◌+◌, ◌-◌, ◌≤◌, ◌<◌}
-use native.Mathlib.Numerals.{add-one}
+use Prim.Native.Nat.{ℕ, zero, suc, ◌-◌, ◌≤◌}
 use native.Mathlib.Omega.{arith}
 use borrow.Author.Tests.{ltb-false, le-ltb}
-use lib.ListN.{length, get_or, drop, drop_of_length-le}
-use lib.Seq.{drop-cons}
+use lib.ListN.{get_or}
 use lib.Dec.{ltb}
 use Rattle.std.specs.Prelude.{Result, Ok, Err}
 use Rattle.std.specs.Result.{result_unwrap_or}
 use Rattle.terms.specs.declared.Refusal.{Refusal}
-use Rattle.terms.specs.Refusal.{refuse, ◌then◌, if_accepted, outside, any_from, number, refusal_in, numbered}
+use Rattle.terms.specs.Refusal.{refuse, ◌then◌, if_accepted, outside, number, refusal_in, numbered}
 
 -- a test that accepts hands on, and one that refuses decides
 pub then_on : (a b : ℕ) → a ≡ 0 → (a then b) ≡ b
@@ -60,14 +58,6 @@ pub not_outside : (low high x : ℕ) → outside low high x ≡ false → (low �
 not_outside low high x e =
     let both = both_false (ltb x low) (ltb high x) e in
     (ltb-false x low both.0, ltb-false high x both.1)
-
--- of the list from index i on some x is bad: the one at i, or a later one; none is past the end
-module _ (bad : ℕ → ℕ → Bool) (s : List ℕ) (i : ℕ) where
-  pub any_next : i < length s → any_from i bad (drop i s) ≡ (bad i (get_or s i 0) || any_from (i + 1) bad (drop (i + 1) s))
-  any_next h = rw (add-one, drop-cons s i 0)
-
-  pub any_none : length s ≤ i → any_from i bad (drop i s) ≡ false
-  any_none h = rw (drop_of_length-le s h)
 
 -- WHAT REFUSES, BY NAME
 
@@ -156,15 +146,15 @@ numbers_settle (Err e) (Ok b) h = absurd (ok_is_no_error (sym h))
 numbers_settle (Err d) (Err e) h = ap Err (same_name d e (ap error_of h))
 
 -- what an answer by a table says of it
-pub accepted_says : (k : ℕ) {A : Type 0} (x : A) {y : A} → if_accepted k (Ok x) (Err k) ≡ Ok y → (k ≡ 0) × (y ≡ x)
-accepted_says zero x e = (refl, sym (ap (λ r. result_unwrap_or r x) e))
-accepted_says (suc k) x e = absurd (ok_is_no_error (sym e))
+pub accepted_says : (k : ℕ) {A : Type 0} (x : A) {y : A} → Ok y ≡ if_accepted k (Ok x) (Err k) → (k ≡ 0) × (y ≡ x)
+accepted_says zero x e = (refl, ap (λ r. result_unwrap_or r x) e)
+accepted_says (suc k) x e = absurd (ok_is_no_error e)
 
-pub refused_says : (k : ℕ) {A : Type 0} (x : A) {n : ℕ} → if_accepted k (Ok x) (Err k) ≡ Err n → (k ≡ n) × (n ≡ 0 → ⊥)
-refused_says zero x e = absurd (ok_is_no_error e)
+pub refused_says : (k : ℕ) {A : Type 0} (x : A) {n : ℕ} → Err n ≡ if_accepted k (Ok x) (Err k) → (k ≡ n) × (n ≡ 0 → ⊥)
+refused_says zero x e = absurd (ok_is_no_error (sym e))
 refused_says (suc k) x {n} e =
-    let same : suc k ≡ n = ap error_of e in
-    (same, λ z. absurd (omega (arith, same, z)))
+    let same : n ≡ suc k = ap error_of e in
+    (sym same, λ z. absurd (omega (arith, same, z)))
 
 -- and what such an answer is
 pub answers_refused : (k : ℕ) {A : Type 0} (x : A) (e : Refusal) → number e ≡ k → numbered (Err e) ≡ if_accepted k (Ok x) (Err k)

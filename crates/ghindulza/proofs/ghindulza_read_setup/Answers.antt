@@ -1,5 +1,5 @@
 -- `ghindulza::ghindulza_read_setup` meets its contract: the outcomes of SetupParts. Assumes nothing.
-use Rattle.std.proofs.Common.{rules, ◌∙◌, arith}
+use Rattle.std.proofs.Common.{arith}
 use Rattle.ghindulza.proofs.SetupParts.{rest_within, setup_accepted, setup_refused}
 use Rattle.ghindulza.proofs.ghindulza_read_setup.Goals as goal
 

@@ -1,5 +1,5 @@
 -- `engine::runs::set_up` meets its contract: the setup is refused, or the report, or the rest's length, or none. Assumes nothing.
-use Rattle.std.proofs.Common.{◌∙◌, arith}
+use Rattle.std.proofs.Common.{arith}
 use Rattle.std.proofs.lemmas.Result.{err_from_is_err_and}
 use Rattle.engine.proofs.Entry.{unset, begins_inside, narrow, too_long, sets_up}
 use Rattle.engine.proofs.runs.set_up.Goals as goal

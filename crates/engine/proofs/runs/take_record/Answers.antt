@@ -1,5 +1,5 @@
 -- `engine::runs::take_record` meets its contract: the reader refuses, then the state, and else the step is taken. Assumes nothing.
-use Rattle.std.proofs.Common.{◌≡◌, ◌∙◌, arith}
+use Rattle.std.proofs.Common.{arith}
 use Rattle.std.proofs.lemmas.List.{set-get_or}
 use Rattle.std.proofs.lemmas.Result.{err_from_is_err_and}
 use Rattle.terms.proofs.RefusalLaws.{some_number}
@@ -36,7 +36,7 @@ pub returns-in_err-judge-clause-left : goal.returns-in_err-judge-clause-left
 returns-in_err-judge-clause-left c =
     rw set-get_or
     (stays _ _ _ (some_number c.in_err-judge.field-0.0)
-      (judged c.args.shape c.args.state.now c.args.s.now c.in_ok-step.ensures c.in_err-judge.ensures))
+    (judged c.args.shape c.args.state.now c.args.s.now c.in_ok-step.ensures c.in_err-judge.ensures))
 
 pub take_step-requires-clause-due : goal.take_step-requires-clause-due
 take_step-requires-clause-due c = good (goal.at.take_step-requires-clause-due c).In_ok-step

@@ -1,5 +1,5 @@
 -- `engine::runs::take_records` meets its contract: a turn takes one record more, or answers with its refusal. Assumes nothing.
-use Rattle.std.proofs.Common.{◌≡◌, ◌∙◌, arith}
+use Rattle.std.proofs.Common.{arith}
 use Rattle.terms.proofs.Parts.{part_to_end}
 use Rattle.model.specs.Run.{records}
 use Rattle.model.proofs.RunLaws.{reach_start}
