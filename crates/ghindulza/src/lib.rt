@@ -87,9 +87,9 @@ pub extern "C" fn ghindulza_read_step(bytes: &[u8], fields: &mut [u32; 3]) -> u3
             *fields = [step.process.0, step.event, step.tick];
             0
         }
-        Err(refusal) => {
+        Err(refused) => {
             *fields = [0; 3];
-            u32::from(refusal)
+            u32::from(refused)
         }
     }
 }
@@ -211,7 +211,7 @@ pub extern "C" fn ghindulza_bank_write(
     ensures { record { number = result; bank = bank_of values.new deadlines.new last.new; answer = answer.new }
         ≡ write_out (write_of (bank_of values.old deadlines.old last.old) (process_of process) (slot_of reg) tick value) }
 {
-    let found = calls::write_in(
+    let made = calls::write_in(
         values,
         deadlines,
         last,
@@ -220,6 +220,6 @@ pub extern "C" fn ghindulza_bank_write(
         tick,
         value,
     );
-    *answer = answer_code(found);
-    answers::number(found)
+    *answer = answer_code(made);
+    answers::number(made)
 }
