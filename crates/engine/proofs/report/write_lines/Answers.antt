@@ -1,6 +1,5 @@
 -- `engine::report::write_lines` meets its contract: each turn lays one line more. Assumes nothing.
-use Rattle.std.proofs.Common.{◌≡◌, ◌∙◌, ℕ, refl, ap, arith}
-use Rattle.terms.specs.Overlay.{overlay}
+use Rattle.std.proofs.Common.{◌∙◌, refl}
 use Rattle.model.specs.Routine.{routine}
 use Rattle.model.specs.Report.{lines}
 use Rattle.model.proofs.ReportLaws.{lines_more}
