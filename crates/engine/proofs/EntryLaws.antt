@@ -20,7 +20,7 @@ use Rattle.model.specs.Run.{shape_of, rest_of}
 use Rattle.model.specs.Report.{ran_of}
 use Rattle.model.proofs.SetupSays.{setup_sound, setup_starts}
 use Rattle.model.proofs.ReportLaws.{refused_run, ran_unset, ran_narrow, ran_long, ran_on}
-use Rattle.engine.specs.Stepped.{ran_from}
+use Rattle.engine.specs.Walk.{ran_from}
 
 module _ (trace : List ℕ) (read : SetupRead) (reads : read ≡ setup_read most_processes trace) where
   number : read.refusal ≡ setup_refusal most_processes trace

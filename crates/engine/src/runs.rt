@@ -5,7 +5,7 @@ ghost use Rattle.model.specs.Bounds.{Sound, Starts};
 ghost use Rattle.model.specs.Sizes.{line_width};
 ghost use Rattle.model.specs.Run.{shape_of};
 ghost use Rattle.model.specs.Report.{ran_of};
-ghost use Rattle.engine.specs.Stepped.{Begins, Walked, ran_from};
+ghost use Rattle.engine.specs.Walk.{Begins, Walked, ran_from};
 
 use crate::{moves, report};
 use bank::Bank;

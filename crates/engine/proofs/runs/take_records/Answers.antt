@@ -6,7 +6,7 @@ use Rattle.steps.specs.declared.StepRead.{StepRead}
 use Rattle.steps.specs.Step.{step_read}
 use Rattle.model.specs.Run.{records, record_at}
 use Rattle.model.proofs.RunLaws.{reach_start}
-use Rattle.engine.specs.Stepped.{Due}
+use Rattle.engine.specs.Walk.{Due}
 use Rattle.engine.proofs.WalkLaws.{arrives, unread, due, roomy, unfit, lands}
 use Rattle.engine.proofs.runs.take_records.Goals as goal
 use Rattle.engine.proofs.runs.take_records.Goals.{Else-read-ne0}
