@@ -23,7 +23,7 @@ use Rattle.model.specs.Run.{shape_of, rest_of, run_refusal}
 use Rattle.model.specs.Report.{ran_of}
 use Rattle.model.proofs.SetupSays.{setup_sound, setup_starts, run_said}
 use Rattle.model.proofs.ReportLaws.{refused_run, ran_refused_first, ran_on}
-use Rattle.engine.specs.Stepped.{set_up, ran_from}
+use Rattle.engine.specs.Walk.{set_up, ran_from}
 
 -- 1 TO 8
 

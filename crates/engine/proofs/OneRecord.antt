@@ -15,7 +15,7 @@ use Rattle.steps.proofs.StepLaws.{AcceptedStep, step_said, step_was_read, step_w
 use Rattle.model.specs.declared.Shape.{Shape}
 use Rattle.model.specs.declared.State.{State}
 use Rattle.model.specs.Run.{row_of, after, judge, record_refusal}
-use Rattle.engine.specs.Stepped.{Due}
+use Rattle.engine.specs.Walk.{Due}
 
 module _ (u : Shape) (x : State) (s : List ℕ) where
   -- a refused record leaves the state

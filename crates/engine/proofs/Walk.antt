@@ -21,7 +21,7 @@ use Rattle.model.specs.Report.{lines, outcome_of, report_of}
 use Rattle.model.proofs.RunLaws.{reach_refused, reach_accepted, reach_stays, records_past}
 use Rattle.model.proofs.Rooms.{reach_room}
 use Rattle.model.proofs.ReportLaws.{ran_by, ran_stopped}
-use Rattle.engine.specs.Stepped.{Roomy, Begins, Walked, ran_from}
+use Rattle.engine.specs.Walk.{Roomy, Begins, Walked, ran_from}
 
 -- the first k records of these bytes are accepted, and led from the state x to the state s
 pub record Going (u : Shape) (x : State) (rest : List ℕ) (s : State) (k : ℕ) : Type 0 where

@@ -1,1 +1,1 @@
-pub mod Stepped
+pub mod Walk

@@ -4,7 +4,7 @@ ghost use Rattle.terms.specs.Limits.{most_slots, top_tick};
 ghost use Rattle.model.specs.Bounds.{Sound, Room};
 ghost use Rattle.model.specs.Memory.{flag_at};
 ghost use Rattle.model.specs.Run.{row_of, move, after};
-ghost use Rattle.engine.specs.Stepped.{Numbered, Due};
+ghost use Rattle.engine.specs.Walk.{Numbered, Due};
 
 use bank::Bank;
 use model::{Place, Shape, Shared, State};

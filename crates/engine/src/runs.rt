@@ -7,7 +7,7 @@ ghost use Rattle.model.specs.Bounds.{Sound, Starts};
 ghost use Rattle.model.specs.Sizes.{line_width};
 ghost use Rattle.model.specs.Run.{after, record_refusal, shape_of};
 ghost use Rattle.model.specs.Report.{outcome_in, ran_of};
-ghost use Rattle.engine.specs.Stepped.{Roomy, Begins, Walked, ran_from, set_up};
+ghost use Rattle.engine.specs.Walk.{Roomy, Begins, Walked, ran_from, set_up};
 
 use crate::{moves, report};
 use bank::Bank;

@@ -3,7 +3,7 @@ use Rattle.std.proofs.Common.{arith}
 use Rattle.std.proofs.lemmas.List.{set-get_or}
 use Rattle.std.proofs.lemmas.Result.{err_from_is_err_and}
 use Rattle.terms.proofs.RefusalLaws.{some_number}
-use Rattle.engine.specs.Stepped.{Due}
+use Rattle.engine.specs.Walk.{Due}
 use Rattle.engine.proofs.OneRecord.{stays, unread, due, among, judged, taken}
 use Rattle.engine.proofs.runs.take_record.Goals as goal
 use Rattle.engine.proofs.runs.take_record.Goals.{In_ok-step}
