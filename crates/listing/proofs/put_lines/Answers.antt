@@ -1,17 +1,12 @@
--- `put_lines` meets its contract: the lines of the first j processes stand in the buffer, and each step puts one more. Assumes nothing.
-use Rattle.std.proofs.Common.{◌+◌, ◌*◌, refl, arith}
-use Rattle.listing.specs.Sizes.{line_bytes}
-use Rattle.listing.specs.Text.{process_lines}
-use Rattle.listing.proofs.PutLaws.{put_then, put_is, put_within, put_none, lines_more}
+-- `put_lines` meets its contract: each turn puts one more line. Assumes nothing.
+use Rattle.std.proofs.Common.{append_assoc, length-append, arith}
+use Rattle.listing.proofs.Lengths.{lines_within}
+use Rattle.listing.proofs.TextLaws.{lines_more}
 use Rattle.listing.proofs.put_lines.Goals as goal
 
-pub loop-j-init : goal.loop-j-init
-unfolding process_lines
-loop-j-init c = record { lines = put_none c.args.at c.args.text.now (omega arith); within = omega arith; room = refl }
+pub put_line-requires : goal.put_line-requires
+put_line-requires c =
+    (omega arith, rw (c.loop-j.invariant, length-append) (omega (arith, lines_within c.args.report.now c.loop-j.j c.args.n (omega arith))))
 
 pub loop-j-preserved : goal.loop-j-preserved
-loop-j-preserved c =
-    let j = c.loop-j.j in
-    let both = put_then c.loop-j.invariant.lines c.put_line-next.ensures in
-    let more = put_is both (lines_more c.args.report.now j) in
-    record { lines = put_within more (line_bytes * (j + 1)) (omega arith); within = omega arith; room = omega arith }
+loop-j-preserved c = rw (← lines_more) (rw (c.put_line.ensures, c.loop-j.invariant, append_assoc))
