@@ -35,15 +35,15 @@ lines_from : (report : List ℕ) (j d : ℕ) → length (process_lines report j)
 unfolding process_lines
 lines_from report j zero = rw add-zero (omega arith)
 lines_from report j (suc d) =
-  let line = process_line report (j + d) in
-  rw (add-suc, length-append (process_lines report (j + d)) line) (omega (arith, lines_from report j d))
+    let line = process_line report (j + d) in
+    rw (add-suc, length-append (process_lines report (j + d)) line) (omega (arith, lines_from report j d))
 
 -- the lines of the first j processes and the next one are no longer than those of the first n
 pub lines_within : (report : List ℕ) (j n : ℕ) → j < n → length (process_lines report j) + length (process_line report j) ≤ length (process_lines report n)
 unfolding process_lines
 lines_within report j n h =
-  let e : suc j + (n - suc j) ≡ n = omega arith in
-  omega (arith, length-append (process_lines report j) (process_line report j), rw e at (lines_from report (suc j) (n - suc j)))
+    let e : suc j + (n - suc j) ≡ n = omega arith in
+    omega (arith, length-append (process_lines report j) (process_line report j), rw e at (lines_from report (suc j) (n - suc j)))
 
 pub head_length : (kind n accepted : ℕ) → length (head_line kind n accepted) ≤ 56
 head_length kind n accepted = simp length-append (omega (arith, decimal-length))

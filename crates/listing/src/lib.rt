@@ -95,7 +95,7 @@ fn put_refused(page: &mut Page, number: u32, index: u32)
 }
 
 // What a run returned and left: its lines, or its refusal.
-#[tactic(auto, using(crate::proofs::Lengths::head_length, crate::proofs::Lengths::lines_length, crate::proofs::Lengths::refused_length, crate::proofs::TextLaws::text_refused))]
+#[tactic(auto, using(crate::proofs::Lengths::head_length, crate::proofs::Lengths::lines_length, crate::proofs::Lengths::refused_length))]
 fn page_of_run(input: &[u8], ran: Outcome, report: &[u32; REPORT]) -> Page
     requires { ran.number ≡ 0 → byte 3 input.now ≤ most_processes }
     ensures { let told : Ran = record { outcome = ran; report = report.now } in

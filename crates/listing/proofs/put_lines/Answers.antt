@@ -1,12 +1,13 @@
--- `put_lines` meets its contract: each turn puts one more line. Assumes nothing.
-use Rattle.std.proofs.Common.{append_assoc, length-append, arith}
+-- `put_lines` meets its contract: each turn puts one line more, and there is room for it among the lines of n processes. Assumes nothing.
+use Rattle.std.proofs.Common.{append_assoc, arith, length-append}
 use Rattle.listing.proofs.Lengths.{lines_within}
 use Rattle.listing.proofs.TextLaws.{lines_more}
 use Rattle.listing.proofs.put_lines.Goals as goal
 
 pub put_line-requires : goal.put_line-requires
 put_line-requires c =
-    (omega arith, rw (c.loop-j.invariant, length-append) (omega (arith, lines_within c.args.report.now c.loop-j.j c.args.n (omega arith))))
+    let room = lines_within c.args.report.now c.loop-j.j c.args.n c.loop-j-test.true in
+    (omega arith, rw c.loop-j.invariant (simp length-append (omega (arith, simp length-append at room))))
 
 pub loop-j-preserved : goal.loop-j-preserved
-loop-j-preserved c = rw (← lines_more) (rw (c.put_line.ensures, c.loop-j.invariant, append_assoc))
+loop-j-preserved c = grind (arith, append_assoc, lines_more)
