@@ -59,6 +59,7 @@ unfolding process_lines
 lines_more report j = ap (process_lines report) (sym (add-one j))
 
 -- what a copy of the text over the front of a buffer leaves is what `list` promises
-pub listed : {piece : List ℕ} (input before : List ℕ) → piece ≡ text_of input → length piece ≤ length before → Listed input before (length piece) (overlay piece before)
+pub listed : {piece : List ℕ} (input before : List ℕ) → piece ≡ text_of input → length piece ≤ length before
+    → Listed input before (length piece) (overlay piece before)
 listed {piece = piece} input before e h =
     record { len = ap length e; text = rw e; within = (simp length-append (omega arith), rw take-append_seam) }
