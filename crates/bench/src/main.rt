@@ -9,6 +9,7 @@ use std::io;
 use std::io::{Read, Write};
 
 // Reads until the buffer is full or the input ends, and says how many bytes that were.
+// No method of std promises this of a lent buffer: `read_exact` tells nothing of a shorter input, nor `io::copy` what a `Cursor` then holds.
 fn read_full<R: Read>(input: &mut R, buffer: &mut [u8]) -> io::Result<usize>
     ensures within { IfOk result (λ n. n ≤ length buffer.new) }
     ensures bytes { IfOk result (λ n. Consumes (R.remaining input.old) (R.remaining input.new) (take n buffer.new)) }

@@ -1,4 +1,5 @@
 pub mod Sample
-pub mod PutLaws
+pub mod Decimal
+pub mod Lengths
 pub mod TextLaws
 pub mod Settled

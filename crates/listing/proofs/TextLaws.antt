@@ -1,9 +1,9 @@
 -- The program's text by cases: input over the limit, a refused run, an accepted one, whose report holds all its processes.
 -- Assumes nothing.
-use mathlib.Core.Path.{◌≡◌, refl, ap, sym, ◌∙◌}
+use mathlib.Core.Path.{◌≡◌, refl, ap, sym}
 use mathlib.Core.List.{List, ◌++◌}
-use Prim.Native.Nat.{ℕ, zero, suc, ◌*◌, ◌≤◌, ◌<◌}
-use native.Mathlib.Nat.{zero-add}
+use Prim.Native.Nat.{ℕ, zero, suc, ◌+◌, ◌*◌, ◌≤◌, ◌<◌}
+use native.Mathlib.Numerals.{add-one}
 use native.Mathlib.Omega.{arith}
 use borrow.Author.Tests.{lt-ltb, le-ltb, ltb-false}
 use lib.Dec.{ltb}
@@ -17,9 +17,8 @@ use Rattle.setups.specs.Setup.{setup_refusal}
 use Rattle.model.specs.Sizes.{line_width, report_width}
 use Rattle.model.specs.Run.{Progress, Progress.stopped, rest_of, records, reached, run_on, run_refusal}
 use Rattle.model.specs.Report.{Ran, outcome_of, ran_of}
-use Rattle.terms.specs.Overlay.{spliced}
-use Rattle.listing.specs.Put.{Put}
-use Rattle.listing.specs.Text.{over_line, head_line, refused_line, process_lines, ran_text, most_input, text_of, Listed}
+use Rattle.terms.specs.Overlay.{overlay}
+use Rattle.listing.specs.Text.{over_line, head_line, refused_line, process_line, process_lines, ran_text, most_input, text_of, Listed}
 
 refused_number : (k x : ℕ) (p : Progress) → (outcome_of k (if_accepted x p (stopped x 0))).number ≡ 0 → x ≡ 0
 unfolding outcome_of
@@ -54,10 +53,13 @@ module _ (input : List ℕ) where
   unfolding text_of
   text_ran h ran e = rw (le-ltb most_input (length input) h) (ap (ran_text input) e)
 
--- a piece at the beginning
-pub listed : {m r : ℕ} {piece before after : List ℕ} → Put m 0 piece before r after → (input : List ℕ) → piece ≡ text_of input → Listed input before r after
-unfolding spliced
-listed {before = before} p input e =
-    let len = rw e at (p.end ∙ zero-add _) in
-    let text = rw (zero-add, e) at p.text in
-    record { len = len; text = text; within = (rw (text, len) (simp length-append (omega arith)), rw (text, len, take-append_seam)) }
+-- one line more
+pub lines_more : (report : List ℕ) (j : ℕ) → process_lines report j ++ process_line report j ≡ process_lines report (j + 1)
+unfolding process_lines
+lines_more report j = ap (process_lines report) (sym (add-one j))
+
+-- what a copy of the text over the front of a buffer leaves is what `list` promises
+pub listed : {piece : List ℕ} (input before : List ℕ) → piece ≡ text_of input → length piece ≤ length before
+    → Listed input before (length piece) (overlay piece before)
+listed {piece = piece} input before e h =
+    record { len = ap length e; text = rw e; within = (simp length-append (omega arith), rw take-append_seam) }

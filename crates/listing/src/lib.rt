@@ -1,16 +1,16 @@
 // The text of the program: what it prints for an input, put into a buffer.
 #![tactic(auto)]
 
-ghost use Rattle.std.specs.Prelude.{◌≡◌, [], ◌∷◌, ◌++◌, ◌+◌, ◌*◌, ◌≤◌, ◌<◌, length};
+ghost use Rattle.std.specs.Prelude.{◌≡◌, ◌++◌, ◌+◌, ◌≤◌, ◌<◌, length};
+ghost use Rattle.arrayvec.specs.ArrayString.{array_string_len};
 ghost use Rattle.records.specs.Record.{byte};
-ghost use Rattle.listing.specs.Put.{Put};
-ghost use Rattle.listing.specs.Sizes.{figure_bytes, line_bytes, head_bytes, refused_bytes, text_bytes};
-ghost use Rattle.listing.specs.Text.{most_digits, decimal, head_line, refused_line, process_line, process_lines, ran_text, Listed};
-ghost use Rattle.model.specs.Report.{Ran};
-ghost use Rattle.model.specs.Sizes.{line_width, report_width};
+ghost use Rattle.listing.specs.Text.{decimal, head_line, refused_line, process_line, process_lines, ran_text, text_of, Listed};
+ghost use Rattle.model.specs.Report.{Ran, outcome_in};
 ghost use Rattle.terms.specs.Limits.{most_processes};
 
+use arrayvec::ArrayString;
 use engine::runs;
+use itoa::Buffer;
 use model::{LINE, Outcome, REPORT};
 
 // The most bytes of an input.
@@ -19,125 +19,121 @@ pub const MOST_INPUT: usize = 65536;
 // A buffer that any text fits.
 pub const TEXT: usize = 2048;
 
+// A text that grows. What is put on a page stands behind what it has, and wants the room.
+type Page = ArrayString<TEXT>;
+
 // The byte at index i, 0 past the end.
 fn byte_at(s: &[u8], i: usize) -> u8
     ensures { result ≡ byte i s.now }
 {
-    if i < s.len() { s[i] } else { 0 }
+    s.get(i).copied().unwrap_or(0)
 }
 
-fn put_byte(b: u8, at: usize, text: &mut [u8]) -> usize
-    requires { at < length text.old }
-    ensures { Put 1 at (b ∷ []) text.old result text.new }
+#[tactic(auto, using(crate::proofs::Decimal::decimal_is_std))]
+fn put_number(page: &mut Page, x: u32)
+    requires { array_string_len page.old + length (decimal x) ≤ TEXT }
+    ensures { page.new.bytes ≡ page.old.bytes ++ decimal x }
 {
-    text[at] = b;
-    at + 1
-}
-
-fn put_word(word: &[u8], at: usize, text: &mut [u8]) -> usize
-    requires { at + length word.now ≤ length text.old }
-    ensures { Put (length word.now) at word.now text.old result text.new }
-{
-    let end = at + word.len();
-    text[at..end].copy_from_slice(word);
-    end
-}
-
-fn put_number(x: u32, at: usize, text: &mut [u8]) -> usize
-    requires { at + most_digits ≤ length text.old }
-    ensures { Put most_digits at (decimal x) text.old result text.new }
-{
-    let digit = b'0' + (x % 10) as u8;
-    if x < 10 {
-        return put_byte(digit, at, text);
-    }
-    let next = put_number(x / 10, at, text);
-    put_byte(digit, next, text)
+    page.push_str(Buffer::new().format(x));
 }
 
 // A number and what stands after it: a space, or the newline.
-fn put_figure(x: u32, after: u8, at: usize, text: &mut [u8]) -> usize
-    requires { at + figure_bytes ≤ length text.old }
-    ensures { Put figure_bytes at (decimal x ++ (after ∷ [])) text.old result text.new }
+fn put_figure(page: &mut Page, x: u32, after: &str)
+    requires { array_string_len page.old + length (decimal x ++ after.now) ≤ TEXT }
+    ensures { page.new.bytes ≡ page.old.bytes ++ decimal x ++ after.now }
 {
-    let next = put_number(x, at, text);
-    put_byte(after, next, text)
+    put_number(page, x);
+    page.push_str(after);
 }
 
 // The line of the process at index j: number, place, second figure, moves, late writes.
-fn put_line(report: &[u32; REPORT], j: usize, at: usize, text: &mut [u8]) -> usize
-    requires { (j < most_processes) × (at + line_bytes ≤ length text.old) }
-    ensures { Put line_bytes at (process_line report.now j) text.old result text.new }
+fn put_line(page: &mut Page, report: &[u32; REPORT], j: usize)
+    requires { (j < most_processes) × (array_string_len page.old + length (process_line report.now j) ≤ TEXT) }
+    ensures { page.new.bytes ≡ page.old.bytes ++ process_line report.now j }
 {
     let line = LINE * j;
-    let next = put_figure(j as u32 + 1, b' ', at, text);
-    let next = put_figure(report[line], b' ', next, text);
-    let next = put_figure(report[line + 1], b' ', next, text);
-    let next = put_figure(report[line + 2], b' ', next, text);
-    put_figure(report[line + 3], b'\n', next, text)
+    put_figure(page, j as u32 + 1, " ");
+    put_figure(page, report[line], " ");
+    put_figure(page, report[line + 1], " ");
+    put_figure(page, report[line + 2], " ");
+    put_figure(page, report[line + 3], "\n");
 }
 
 // The lines of the first n processes.
-fn put_lines(report: &[u32; REPORT], n: usize, at: usize, text: &mut [u8]) -> usize
-    requires { (n ≤ most_processes) × (at + line_bytes * n ≤ length text.old) }
-    ensures { Put (line_bytes * n) at (process_lines report.now n) text.old result text.new }
+#[tactic(auto, unfolding(crate::specs::Text::process_lines))]
+fn put_lines(page: &mut Page, report: &[u32; REPORT], n: usize)
+    requires { (n ≤ most_processes) × (array_string_len page.old + length (process_lines report.now n) ≤ TEXT) }
+    ensures { page.new.bytes ≡ page.old.bytes ++ process_lines report.now n }
 {
-    let mut next = at;
-    let mut j: usize = 0;
-    while j < n {
-        next = put_line(report, j, next, text);
-        j += 1;
+    for j in 0..n {
+        put_line(page, report, j);
     }
-    next
 }
 
 // `kind K processes N records R`
-fn put_head(kind: u32, n: u32, accepted: u32, text: &mut [u8]) -> usize
-    requires { head_bytes ≤ length text.old }
-    ensures { Put head_bytes 0 (head_line kind n accepted) text.old result text.new }
+fn put_head(page: &mut Page, kind: u32, n: u32, accepted: u32)
+    requires { array_string_len page.old + length (head_line kind n accepted) ≤ TEXT }
+    ensures { page.new.bytes ≡ page.old.bytes ++ head_line kind n accepted }
 {
-    let next = put_word(b"kind ", 0, text);
-    let next = put_number(kind, next, text);
-    let next = put_word(b" processes ", next, text);
-    let next = put_number(n, next, text);
-    let next = put_word(b" records ", next, text);
-    put_figure(accepted, b'\n', next, text)
+    page.push_str("kind ");
+    put_number(page, kind);
+    page.push_str(" processes ");
+    put_number(page, n);
+    page.push_str(" records ");
+    put_figure(page, accepted, "\n");
 }
 
 // `refused NO at record INDEX`
-fn put_refused(number: u32, index: u32, text: &mut [u8]) -> usize
-    requires { refused_bytes ≤ length text.old }
-    ensures { Put refused_bytes 0 (refused_line number index) text.old result text.new }
+fn put_refused(page: &mut Page, number: u32, index: u32)
+    requires { array_string_len page.old + length (refused_line number index) ≤ TEXT }
+    ensures { page.new.bytes ≡ page.old.bytes ++ refused_line number index }
 {
-    let next = put_word(b"refused ", 0, text);
-    let next = put_number(number, next, text);
-    let next = put_word(b" at record ", next, text);
-    put_figure(index, b'\n', next, text)
+    page.push_str("refused ");
+    put_number(page, number);
+    page.push_str(" at record ");
+    put_figure(page, index, "\n");
 }
 
 // What a run returned and left: its lines, or its refusal.
-fn put_ran(input: &[u8], ran: Outcome, report: &[u32; REPORT], text: &mut [u8]) -> usize
-    requires { (ran.number ≡ 0 → line_width * byte 3 input.now ≤ report_width) × (text_bytes ≤ length text.old) }
-    ensures { let told : Ran = record { outcome = ran; report = report.now } in
-        Put text_bytes 0 (ran_text input.now told) text.old result text.new }
+#[tactic(auto, using(crate::proofs::Lengths::head_length, crate::proofs::Lengths::lines_length, crate::proofs::Lengths::refused_length))]
+fn page_of_run(input: &[u8], ran: Outcome, report: &[u32; REPORT]) -> Page
+    requires { (outcome_in ran).number ≡ 0 → byte 3 input.now ≤ most_processes }
+    ensures { let told : Ran = record { outcome = outcome_in ran; report = report.now } in
+        result.bytes ≡ ran_text input.now told }
 {
-    if ran.number != 0 {
-        return put_refused(ran.number, ran.at, text);
+    let mut page = Page::new();
+    match ran {
+        Ok(accepted) => {
+            let n = byte_at(input, 3);
+            put_head(&mut page, u32::from(byte_at(input, 2)), u32::from(n), accepted);
+            put_lines(&mut page, report, usize::from(n));
+        }
+        Err(refused) => put_refused(&mut page, u32::from(refused.refusal), refused.at),
     }
-    let kind = byte_at(input, 2);
-    let n = byte_at(input, 3);
-    let next = put_head(kind as u32, n as u32, ran.at, text);
-    put_lines(report, n as usize, next, text)
+    page
 }
 
-// The text that the program prints for an input.
-pub fn list(input: &[u8], text: &mut [u8; TEXT]) -> usize
-    ensures { Listed input.now text.old result text.new }
+// The text of an input.
+#[tactic(auto, using(crate::proofs::TextLaws::text_over, crate::proofs::TextLaws::text_ran, crate::proofs::TextLaws::accepted_fits))]
+fn page_of(input: &[u8]) -> Page
+    ensures { result.bytes ≡ text_of input.now }
 {
     if input.len() > MOST_INPUT {
-        return put_word(b"input over 65536\n", 0, text);
+        let mut page = Page::new();
+        page.push_str("input over 65536\n");
+        return page;
     }
     let mut report = [0; REPORT];
     let ran = runs::run(input, &mut report);
-    put_ran(input, ran, &report, text)
+    page_of_run(input, ran, &report)
+}
+
+// The text that the program prints for an input.
+#[tactic(auto, using(crate::proofs::TextLaws::listed))]
+pub fn list(input: &[u8], text: &mut [u8; TEXT]) -> usize
+    ensures { Listed input.now text.old result text.new }
+{
+    let page = page_of(input);
+    text[..page.len()].copy_from_slice(page.as_bytes());
+    page.len()
 }

@@ -1,17 +1,13 @@
--- `put_lines` meets its contract: the lines of the first j processes stand in the buffer, and each step puts one more. Assumes nothing.
-use Rattle.std.proofs.Common.{◌+◌, ◌*◌, refl, arith}
-use Rattle.listing.specs.Sizes.{line_bytes}
-use Rattle.listing.specs.Text.{process_lines}
-use Rattle.listing.proofs.PutLaws.{put_then, put_is, put_within, put_none, lines_more}
+-- `put_lines` meets its contract: each turn puts one line more, and there is room for it among the lines of n processes. Assumes nothing.
+use Rattle.std.proofs.Common.{append_assoc, arith, length-append}
+use Rattle.listing.proofs.Lengths.{lines_within}
+use Rattle.listing.proofs.TextLaws.{lines_more}
 use Rattle.listing.proofs.put_lines.Goals as goal
 
-pub loop-j-init : goal.loop-j-init
-unfolding process_lines
-loop-j-init c = record { lines = put_none c.args.at c.args.text.now (omega arith); within = omega arith; room = refl }
+pub put_line-requires : goal.put_line-requires
+put_line-requires c =
+    let room = lines_within c.args.report.now c.loop-j.j c.args.n c.loop-j-test.true in
+    (omega arith, rw c.loop-j.invariant (simp length-append (omega (arith, simp length-append at room))))
 
 pub loop-j-preserved : goal.loop-j-preserved
-loop-j-preserved c =
-    let j = c.loop-j.j in
-    let both = put_then c.loop-j.invariant.lines c.put_line-next.ensures in
-    let more = put_is both (lines_more c.args.report.now j) in
-    record { lines = put_within more (line_bytes * (j + 1)) (omega arith); within = omega arith; room = omega arith }
+loop-j-preserved c = grind (arith, append_assoc, lines_more)
