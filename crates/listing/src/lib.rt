@@ -105,7 +105,12 @@ fn page_of_run(input: &[u8], ran: Outcome, report: &[u32; REPORT]) -> Page
     match ran {
         Ok(accepted) => {
             let n = byte_at(input, 3);
-            put_head(&mut page, u32::from(byte_at(input, 2)), u32::from(n), accepted);
+            put_head(
+                &mut page,
+                u32::from(byte_at(input, 2)),
+                u32::from(n),
+                accepted,
+            );
             put_lines(&mut page, report, usize::from(n));
         }
         Err(refused) => put_refused(&mut page, u32::from(refused.refusal), refused.at),
