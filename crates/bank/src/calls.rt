@@ -6,7 +6,7 @@ ghost use Rattle.bank.specs.Registers.{bank_of};
 ghost use Rattle.bank.specs.Calls.{read_of, write_of};
 
 use answers::{ReadAnswer, Write, WriteAnswer};
-use registers::{PAIRS, REGISTERS};
+use registers::{PAIRS, Pair, REGISTERS};
 use terms::{ProcessNumber, SlotNumber};
 
 #[tactic(auto, using(crate::proofs::Outcomes::read_stops, crate::proofs::Outcomes::read_pair, crate::proofs::Outcomes::read_tick, crate::proofs::Outcomes::read_wait))]
@@ -23,7 +23,8 @@ pub fn read_in(
         ≡ read_of (bank_of values.now deadlines.old last.old) i c t d }
 {
     refusals::read_refusal(*last, i, c, t, d)?;
-    Ok(registers::read_granted(values, deadlines, last, i, c, t, d))
+    let pair = Pair { process: i, register: c };
+    Ok(registers::read_granted(values, deadlines, last, pair, t, d))
 }
 
 #[tactic(auto, using(crate::proofs::Outcomes::write_stops, crate::proofs::Outcomes::write_pair))]
@@ -40,7 +41,8 @@ pub fn write_in(
         ≡ write_of (bank_of values.old deadlines.old last.old) i c t v }
 {
     refusals::call_refusal(*last, i, c, t)?;
-    if registers::write_granted(values, deadlines, last, i, c, t, v) {
+    let pair = Pair { process: i, register: c };
+    if registers::write_granted(values, deadlines, last, pair, t, v) {
         return Ok(Write::Late);
     }
     Ok(Write::Done)

@@ -95,6 +95,9 @@ module _ (trace old : List ℕ) where
     pub rest_inside : 8 + f.processes ≤ length trace
     rest_inside = omega (arith, count', (setup_said most_processes trace passed').head.whole)
 
+    pub few : f.processes ≤ most_processes
+    few = omega (arith, count', (setup_said most_processes trace passed').head.limits.few)
+
     -- the rest as the code takes it
     abbrev pub part : List ℕ
     part = take (length trace - (8 + f.processes)) (drop (8 + f.processes) trace)

@@ -1,13 +1,15 @@
 // A step in place: by the place of its process one operation of memory, and where the process goes with the answer.
 ghost use Rattle.std.specs.Prelude.{◌≤◌, ◌≡◌};
 ghost use Rattle.terms.specs.Limits.{most_slots, top_tick};
-ghost use Rattle.model.specs.Bounds.{Sound, Room};
+ghost use Rattle.model.specs.Bounds.{Room};
 ghost use Rattle.model.specs.Memory.{flag_at};
 ghost use Rattle.model.specs.Run.{row_of, move, after};
 ghost use Rattle.engine.specs.Walk.{Numbered, Due};
 
+use crate::course::Course;
 use bank::Bank;
-use model::{Place, Shape, Shared, State};
+use model::{Place, Shared, State};
+use registers::Pair;
 use routine::takes;
 use steps::Step;
 use terms::{ProcessNumber, Wait};
@@ -22,13 +24,13 @@ fn flag(v: u32, shared: &Shared) -> u32
 
 // A move of process i.
 #[tactic(auto, unfolding(model::specs::Run::move_at, bank::specs::Registers::after_read, bank::specs::Registers::after_write))]
-fn make_move(shape: Shape, i: ProcessNumber, tick: u32, state: &mut State)
-    requires sound { Sound shape }
+fn make_move(course: Course, i: ProcessNumber, tick: u32, state: &mut State)
     requires numbered { Numbered i }
     requires tick_le_top_tick { tick ≤ top_tick }
-    requires room { Room shape (row_of state.old i) }
-    ensures { state.new ≡ move shape state.old i tick }
+    requires room { Room course.shape (row_of state.old i) }
+    ensures { state.new ≡ move course.shape state.old i tick }
 {
+    let shape = course.shape;
     state.newest = tick;
     let Bank {
         values,
@@ -36,24 +38,24 @@ fn make_move(shape: Shape, i: ProcessNumber, tick: u32, state: &mut State)
         last,
     } = &mut state.bank;
     let row = &mut state.rows[(i.0 - 1) as usize];
-    let c = row.local.slot;
+    let pair = Pair { process: i, register: row.local.slot };
     match row.local.place {
         Place::Rest => takes::rest(shape, row),
         Place::Look => {
-            let v = registers::read_granted(values, deadlines, last, i, c, tick, shape.delta);
+            let v = registers::read_granted(values, deadlines, last, pair, tick, shape.delta);
             takes::look(shape, v, row);
         }
         Place::Put => {
-            let late = registers::write_granted(values, deadlines, last, i, c, tick, row.own);
+            let late = registers::write_granted(values, deadlines, last, pair, tick, row.own);
             takes::put(shape, late, row);
         }
         Place::Wait => takes::wait(shape, tick, row),
         Place::Check => {
-            let v = registers::read_granted(values, deadlines, last, i, c, tick, Wait::UNLIMITED);
+            let v = registers::read_granted(values, deadlines, last, pair, tick, Wait::UNLIMITED);
             takes::check(shape, v, row);
         }
         Place::Critical => {
-            let late = registers::write_granted(values, deadlines, last, i, c, tick, 0);
+            let late = registers::write_granted(values, deadlines, last, pair, tick, 0);
             takes::critical(shape, late, row);
         }
         Place::Flag => {
@@ -70,11 +72,10 @@ fn make_move(shape: Shape, i: ProcessNumber, tick: u32, state: &mut State)
 
 // An accepted step: a move, or a crash.
 #[tactic(auto, unfolding(model::specs::Run::after, model::specs::Run::stop))]
-pub fn take_step(shape: Shape, step: Step, state: &mut State)
-    requires sound { Sound shape }
+pub fn take_step(course: Course, step: Step, state: &mut State)
     requires due { Due step }
-    requires room { Room shape (row_of state.old step.process) }
-    ensures { state.new ≡ after shape state.old step }
+    requires room { Room course.shape (row_of state.old step.process) }
+    ensures { state.new ≡ after course.shape state.old step }
 {
     let crashes = step.event != 0;
     if crashes {
@@ -83,5 +84,5 @@ pub fn take_step(shape: Shape, step: Step, state: &mut State)
         state.newest = step.tick;
         return;
     }
-    make_move(shape, step.process, step.tick, state);
+    make_move(course, step.process, step.tick, state);
 }

@@ -6,8 +6,9 @@ ghost use Rattle.model.specs.Routine.{routine_of, routine};
 ghost use Rattle.model.specs.Sizes.{line_width};
 ghost use Rattle.model.specs.Report.{shown_place, figure_of, line, lines};
 
+use crate::course::Course;
 use kinds::Kind;
-use model::{LINE, ROWS, Row, Shape};
+use model::{LINE, ROWS, Row};
 
 fn shown_place(row: &Row) -> u32
     ensures { result ≡ shown_place row.now }
@@ -39,11 +40,11 @@ pub fn write_line(kind: Kind, row: &Row, at: usize, report: &mut [u32])
 }
 
 // The lines of all processes, over the report's first numbers.
-pub fn write_lines(shape: Shape, rows: &[Row; ROWS], report: &mut [u32])
-    requires count_le_most_processes { shape.count ≤ most_processes }
-    requires room { line_width * shape.count ≤ length report.old }
-    ensures { report.new ≡ overlay (lines (routine shape) rows.now shape.count) report.old }
+pub fn write_lines(course: Course, rows: &[Row; ROWS], report: &mut [u32])
+    requires { line_width * course.shape.count ≤ length report.old }
+    ensures { report.new ≡ overlay (lines (routine course.shape) rows.now course.shape.count) report.old }
 {
+    let shape = course.shape;
     for j in 0..shape.count as usize {
         write_line(shape.kind, &rows[j], j * LINE, report);
     }

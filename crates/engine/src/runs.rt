@@ -3,12 +3,13 @@ ghost use Rattle.std.specs.Prelude.{◌≡◌, ◌*◌, ◌≤◌, length};
 ghost use Rattle.terms.specs.Limits.{most_processes, most_steps};
 ghost use Rattle.terms.specs.Refusal.{refusal_in, if_accepted, numbered};
 ghost use Rattle.steps.specs.Step.{step_fields};
-ghost use Rattle.model.specs.Bounds.{Sound, Starts};
+ghost use Rattle.model.specs.Bounds.{Starts};
 ghost use Rattle.model.specs.Sizes.{line_width};
 ghost use Rattle.model.specs.Run.{after, record_refusal, shape_of};
 ghost use Rattle.model.specs.Report.{outcome_in, ran_of};
 ghost use Rattle.engine.specs.Walk.{Roomy, Begins, Walked, ran_from, set_up};
 
+use crate::course::Course;
 use crate::{moves, report};
 use bank::Bank;
 use model::{FLAGS, LINE, Outcome, ROWS, Refused, Row, Shape, Shared, State};
@@ -18,34 +19,30 @@ use terms::{Refusal, Trace};
 
 // The record that s begins with: taken, or refused by its bytes or by the state, which then stays as it was.
 #[tactic(auto, unfolding(model::specs::Run::record_refusal))]
-fn take_record(shape: Shape, s: &[u8], state: &mut State) -> Result<(), Refusal>
-    requires sound { Sound shape }
-    requires few { shape.count ≤ most_processes }
-    requires roomy { Roomy shape state.old }
-    ensures answer { refusal_in result ≡ record_refusal shape state.old s.now }
+fn take_record(course: Course, s: &[u8], state: &mut State) -> Result<(), Refusal>
+    requires { Roomy course.shape state.old }
+    ensures answer { refusal_in result ≡ record_refusal course.shape state.old s.now }
     ensures left { state.new
-        ≡ if_accepted (record_refusal shape state.old s.now) (after shape state.old (step_fields s.now)) state.old }
+        ≡ if_accepted (record_refusal course.shape state.old s.now) (after course.shape state.old (step_fields s.now)) state.old }
 {
-    let step = steps::read_step_of(shape.count, s)?;
+    let step = steps::read_step_of(course.shape.count, s)?;
     let j = (step.process.0 - 1) as usize;
-    judges::judge(shape, &state.rows[j], state.newest, step)?;
-    moves::take_step(shape, step, state);
+    judges::judge(course.shape, &state.rows[j], state.newest, step)?;
+    moves::take_step(course, step, state);
     Ok(())
 }
 
 // The records of `rest`, one after the other: `state` is one that a run begins with, and then the state that the records left.
-fn take_records(shape: Shape, rest: &[u8], state: &mut State) -> Outcome
-    requires sound { Sound shape }
-    requires few { shape.count ≤ most_processes }
+fn take_records(course: Course, rest: &[u8], state: &mut State) -> Outcome
     requires short { length rest.now ≤ 8 * most_steps }
-    requires begins { Begins shape state.old }
-    ensures { Walked shape state.old rest.now result state.new }
+    requires begins { Begins course.shape state.old }
+    ensures { Walked course.shape state.old rest.now result state.new }
 {
     let records = rest.len().div_ceil(8);
     for k in 0..records {
         let begin = k * 8;
         let at = k as u32 + 1;
-        match take_record(shape, &rest[begin..], state) {
+        match take_record(course, &rest[begin..], state) {
             Ok(()) => {}
             Err(refusal) => return Err(Refused { refusal, at }),
         }
@@ -55,12 +52,11 @@ fn take_records(shape: Shape, rest: &[u8], state: &mut State) -> Outcome
 
 // A run of the records of `rest`, from its fresh state to its report.
 #[tactic(auto, unfolding(model::specs::Run::blank_state))]
-fn run_steps(shape: Shape, starts: [u8; PLACES], rest: &[u8], report: &mut [u32]) -> Outcome
-    requires sound { Sound shape }
-    requires starts { Starts shape starts }
+fn run_steps(course: Course, starts: [u8; PLACES], rest: &[u8], report: &mut [u32]) -> Outcome
+    requires starts { Starts course.shape starts }
     requires short { length rest.now ≤ 8 * most_steps }
-    requires room { line_width * shape.count ≤ length report.old }
-    ensures { record { outcome = outcome_in result; report = report.new } ≡ ran_from shape starts rest.now report.old }
+    requires room { line_width * course.shape.count ≤ length report.old }
+    ensures { record { outcome = outcome_in result; report = report.new } ≡ ran_from course.shape starts rest.now report.old }
 {
     let mut state = State {
         rows: [Row::BLANK; ROWS],
@@ -70,9 +66,9 @@ fn run_steps(shape: Shape, starts: [u8; PLACES], rest: &[u8], report: &mut [u32]
         },
         newest: 0,
     };
-    state.begin(shape, starts);
-    let accepted = take_records(shape, rest, &mut state)?;
-    report::write_lines(shape, &state.rows, report);
+    state.begin(course.shape, starts);
+    let accepted = take_records(course, rest, &mut state)?;
+    report::write_lines(course, &state.rows, report);
     Ok(accepted)
 }
 
@@ -109,5 +105,8 @@ pub fn run(trace: &[u8], report: &mut [u32]) -> Outcome
 {
     let setup = set_up(trace, report.len())?;
     let rest = &trace[8 + usize::from(setup.processes)..];
-    run_steps(shape_of(setup), setup.starts, rest, report)
+    let course = Course {
+        shape: shape_of(setup),
+    };
+    run_steps(course, setup.starts, rest, report)
 }

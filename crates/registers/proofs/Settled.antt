@@ -21,9 +21,9 @@ stored late values deadlines last = record { late = late; values = values; deadl
 pub read_granted_settles : Settles 3 read_granted_kinds.ps read_granted_kinds.r read_granted_reads.Post
 read_granted_settles κs a x y u v p q =
     let e : seen x u.1.0 u.1.1.0 ≡ seen y v.1.0 v.1.1.0 = p ∙ sym q in
-    ((λ k. (e k).value), (λ k. (tt, ((e k).deadlines, ((e k).last, (tt, (tt, (tt, (tt, tt)))))))))
+    ((λ k. (e k).value), (λ k. (tt, ((e k).deadlines, ((e k).last, (tt, (tt, (tt, tt))))))))
 
 pub write_granted_settles : Settles 3 write_granted_kinds.ps write_granted_kinds.r write_granted_reads.Post
 write_granted_settles κs a x y u v p q =
     let e : stored x u.0 u.1.0 u.1.1.0 ≡ stored y v.0 v.1.0 v.1.1.0 = p ∙ sym q in
-    ((λ k. (e k).late), (λ k. ((e k).values, ((e k).deadlines, ((e k).last, (tt, (tt, (tt, (tt, tt)))))))))
+    ((λ k. (e k).late), (λ k. ((e k).values, ((e k).deadlines, ((e k).last, (tt, (tt, (tt, tt))))))))

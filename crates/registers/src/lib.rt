@@ -16,13 +16,22 @@ pub const REGISTERS: usize = Trace::SLOTS as usize;
 // The pairs of a process and a register.
 pub const PAIRS: usize = Trace::PROCESSES as usize * REGISTERS;
 
-// The place of a pair among the deadlines.
-fn pair_of(i: ProcessNumber, c: SlotNumber) -> usize
-    requires { IsPair i c }
-    ensures { result ≡ pair_of i c }
-{
-    let row = (i.0 - 1) as usize;
-    row * REGISTERS + c.0 as usize
+// A process and a register that there are.
+#[derive(Clone, Copy)]
+pub struct Pair {
+    pub process: ProcessNumber,
+    pub register: SlotNumber,
+    ghost there: { IsPair process register },
+}
+
+impl Pair {
+    // Its place among the deadlines.
+    fn place(self) -> usize
+        ensures { result ≡ pair_of self.process self.register }
+    {
+        let row = (self.process.0 - 1) as usize;
+        row * REGISTERS + self.register.0 as usize
+    }
 }
 
 // The deadline that a read at tick t with the wait d sets.
@@ -37,27 +46,23 @@ fn due_at(t: u32, d: u32) -> u32
     t + d
 }
 
-// The value of register c; the pair's deadline becomes t with the wait, or unlimited.
+// The value of the register; the pair's deadline becomes t with the wait, or unlimited.
 pub fn read_granted(
     values: &[u32; REGISTERS],
     deadlines: &mut [u32; PAIRS],
     last: &mut u32,
-    i: ProcessNumber,
-    c: SlotNumber,
+    pair: Pair,
     t: u32,
     d: u32,
 ) -> u32
-    requires pair { IsPair i c }
     requires tick { IsTick t }
     requires wait { IsWait d }
     ensures { record { value = result; deadlines = deadlines.new; last = last.new }
-        ≡ read_granted values.now deadlines.old i c t d }
+        ≡ read_granted values.now deadlines.old pair.process pair.register t d }
 {
-    let pair = pair_of(i, c);
-    deadlines[pair] = due_at(t, d);
+    deadlines[pair.place()] = due_at(t, d);
     *last = t;
-    let slot = c.0 as usize;
-    values[slot]
+    values[pair.register.0 as usize]
 }
 
 // True where the write is late: the value stays then, and is v otherwise. Either way the pair's deadline becomes unlimited.
@@ -65,22 +70,19 @@ pub fn write_granted(
     values: &mut [u32; REGISTERS],
     deadlines: &mut [u32; PAIRS],
     last: &mut u32,
-    i: ProcessNumber,
-    c: SlotNumber,
+    pair: Pair,
     t: u32,
     v: u32,
 ) -> bool
-    requires { IsPair i c }
     ensures { record { late = result; values = values.new; deadlines = deadlines.new; last = last.new }
-        ≡ write_granted values.old deadlines.old i c t v }
+        ≡ write_granted values.old deadlines.old pair.process pair.register t v }
 {
-    let pair = pair_of(i, c);
-    let deadline = deadlines[pair];
-    deadlines[pair] = Wait::UNLIMITED;
+    let place = pair.place();
+    let deadline = deadlines[place];
+    deadlines[place] = Wait::UNLIMITED;
     *last = t;
     if t <= deadline {
-        let slot = c.0 as usize;
-        values[slot] = v;
+        values[pair.register.0 as usize] = v;
         return false;
     }
     true

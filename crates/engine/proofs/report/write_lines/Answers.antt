@@ -13,4 +13,4 @@ pub loop-j-preserved : goal.loop-j-preserved
 loop-j-preserved c =
     let l = c.loop-j in
     let a = c.args in
-    c.write_line.ensures ∙ lines_more (routine a.shape) a.rows.now l.j a.report.now l.report l.invariant
+    c.write_line.ensures ∙ lines_more (routine a.course.shape) a.rows.now l.j a.report.now l.report l.invariant

@@ -9,10 +9,10 @@ use Rattle.engine.proofs.runs.take_records.Goals as goal
 pub loop-k-init : goal.loop-k-init
 loop-k-init c = record { so_far = reach_start _ _ _ }
 
-pub take_record-requires-clause-roomy : goal.take_record-requires-clause-roomy
-take_record-requires-clause-roomy c =
+pub take_record-requires : goal.take_record-requires
+take_record-requires c =
     let r = c.requires in
-    roomy c.loop-k.invariant (omega arith) r.sound r.begins r.short
+    roomy c.loop-k.invariant (omega arith) c.args.course.sound r.begins r.short
 
 pub returns-in-Err : goal.returns-in-Err
 returns-in-Err c = falls c.loop-k.invariant (omega arith) (rw part_to_end at c.in-Err.ensures.answer) _

@@ -3,4 +3,4 @@ use Rattle.engine.proofs.Walk.{Going}
 use Rattle.engine.proofs.runs.take_records.Given as goal
 
 abbrev pub invariant-loop-k : goal.invariant-loop-k
-invariant-loop-k l = Going l.shape l.initial.state l.rest l.state l.k
+invariant-loop-k l = Going l.course.shape l.initial.state l.rest l.state l.k
