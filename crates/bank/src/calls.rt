@@ -23,7 +23,10 @@ pub fn read_in(
         ≡ read_of (bank_of values.now deadlines.old last.old) i c t d }
 {
     refusals::read_refusal(*last, i, c, t, d)?;
-    let pair = Pair { process: i, register: c };
+    let pair = Pair {
+        process: i,
+        register: c,
+    };
     Ok(registers::read_granted(values, deadlines, last, pair, t, d))
 }
 
@@ -41,7 +44,10 @@ pub fn write_in(
         ≡ write_of (bank_of values.old deadlines.old last.old) i c t v }
 {
     refusals::call_refusal(*last, i, c, t)?;
-    let pair = Pair { process: i, register: c };
+    let pair = Pair {
+        process: i,
+        register: c,
+    };
     if registers::write_granted(values, deadlines, last, pair, t, v) {
         return Ok(Write::Late);
     }

@@ -38,7 +38,10 @@ fn make_move(course: Course, i: ProcessNumber, tick: u32, state: &mut State)
         last,
     } = &mut state.bank;
     let row = &mut state.rows[(i.0 - 1) as usize];
-    let pair = Pair { process: i, register: row.local.slot };
+    let pair = Pair {
+        process: i,
+        register: row.local.slot,
+    };
     match row.local.place {
         Place::Rest => takes::rest(shape, row),
         Place::Look => {

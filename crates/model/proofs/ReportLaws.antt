@@ -3,11 +3,11 @@
 -- Assumes nothing.
 use Prim.Native.Nat.{ℕ, zero, suc, ◌+◌, ◌*◌, ◌-◌}
 use mathlib.Core.Path.{◌≡◌, refl, sym, ap, ap₂, ◌∙◌}
-use mathlib.Core.List.{List, ◌++◌, append_assoc}
+use mathlib.Core.List.{List, ◌++◌}
 use native.Mathlib.Nat.{zero-add}
-use native.Mathlib.Numerals.{add-one, add-two, add-three}
+use native.Mathlib.Numerals.{add-one}
 use native.Mathlib.Omega.{arith}
-use lib.ListN.{length, take, drop, get_or, set, length-append}
+use lib.ListN.{length, get_or, length-append}
 use borrow.Rule.Slice.PartMut.{put_mid}
 use native.Mathlib.Nat.{add-sub_cancel_left}
 use lib.Seq.{drop-drop}
@@ -21,7 +21,7 @@ use Rattle.model.specs.declared.Row.{Row}
 use Rattle.model.specs.Routine.{Routine}
 use Rattle.model.specs.Sizes.{line_width}
 use Rattle.model.specs.Run.{blank, shape, rest_of, run_refusal, records, reached, Progress, Progress.stopped}
-use Rattle.model.specs.Report.{shown_place, figure_of, line, lines, report_of, outcome_of, outcome_in, Outcome, Ran, ran_of}
+use Rattle.model.specs.Report.{line, lines, report_of, outcome_of, outcome_in, Outcome, Ran, ran_of}
 use Rattle.model.proofs.RunLaws.{run_refused, run_follows}
 
 -- LINES
