@@ -12,6 +12,8 @@ use Rattle.model.proofs.State.begin.Kinds as begin_kinds
 use Rattle.model.proofs.State.begin.Reads as begin
 use Rattle.model.proofs.State.fresh.Kinds as fresh_kinds
 use Rattle.model.proofs.State.fresh.Reads as fresh
+use Rattle.model.proofs.RefusedFromRefusal.from.Kinds as from_kinds
+use Rattle.model.proofs.RefusedFromRefusal.from.Reads as from
 
 pub number_settles : Settles 0 number_kinds.ps number_kinds.r number.Post
 number_settles κs a x y u v p q = (p ∙ sym q, refl)
@@ -27,3 +29,6 @@ begin_settles κs a x y u v p q = (refl, (λ k. ((p ∙ sym q) k, (tt, (tt, tt))
 
 pub fresh_settles : Settles 0 fresh_kinds.ps fresh_kinds.r fresh.Post
 fresh_settles κs a x y u v p q = (p ∙ sym q, refl)
+
+pub from_settles : Settles 0 from_kinds.ps from_kinds.r from.Post
+from_settles κs a x y u v p q = (p ∙ sym q, refl)

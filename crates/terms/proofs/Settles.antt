@@ -7,6 +7,8 @@ use mathlib.Core.List.{List}
 use contract.Lifetimes.{Lfts}
 use denote.Triple.Clauses.{Lasts, at_exit}
 use borrow.Fn.Kinds.{ParamKind, ResultKind, Out, Dens, res_t, ended_of}
+use Rattle.terms.proofs.U32FromRefusal.from.Kinds as from_kinds
+use Rattle.terms.proofs.U32FromRefusal.from.Reads as from
 use Rattle.terms.proofs.u16_of.Kinds as u16_of_kinds
 use Rattle.terms.proofs.u16_of.Reads as u16_of
 use Rattle.terms.proofs.u32_of.Kinds as u32_of_kinds
@@ -21,6 +23,9 @@ abbrev pub Settles : (n : ℕ) (ps : List (ParamKind n)) (r : ResultKind n) → 
 Settles n ps r Post =
     (κs : Lfts n) (a : Dens κs ps) (x y : (res_t r κs).Denot) (u v : Lasts (ended_of n ps r) κs a)
     → Post κs a x (at_exit (ended_of n ps r) κs a u) → Post κs a y (at_exit (ended_of n ps r) κs a v) → (x ≡ y) × (u ≡ v)
+
+pub from_settles : Settles 0 from_kinds.ps from_kinds.r from.Post
+from_settles κs a x y u v p q = (p ∙ sym q, refl)
 
 pub u16_of_settles : Settles 0 u16_of_kinds.ps u16_of_kinds.r u16_of.Post
 u16_of_settles κs a x y u v p q = (p ∙ sym q, refl)
