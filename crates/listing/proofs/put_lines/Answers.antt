@@ -6,7 +6,7 @@ use Rattle.listing.proofs.put_lines.Goals as goal
 
 pub put_line-requires : goal.put_line-requires
 put_line-requires c =
-    let room = lines_within c.args.report.now c.loop-j.j c.args.n c.loop-j-test.true in
+    let room = lines_within c.args.report.now c.loop-j.j c.args.n (omega arith) in
     (omega arith, rw c.loop-j.invariant (simp length-append (omega (arith, simp length-append at room))))
 
 pub loop-j-preserved : goal.loop-j-preserved
