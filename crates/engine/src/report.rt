@@ -28,12 +28,15 @@ fn figure(kind: Kind, row: &Row) -> u32
     }
 }
 
-// A process's line.
-#[tactic(auto, unfolding(model::specs::Report::line))]
-fn line_of(kind: Kind, row: &Row) -> [u32; LINE]
-    ensures { result ≡ line (routine_of kind) row.now }
+// The line of the process with this row, at the report's number `at`.
+pub fn write_line(kind: Kind, row: &Row, at: usize, report: &mut [u32])
+    requires { at + line_width ≤ length report.old }
+    ensures { report.new ≡ spliced at (line (routine_of kind) row.now) report.old }
 {
-    [shown_place(row), figure(kind, row), row.moves, row.lates]
+    report[at] = shown_place(row);
+    report[at + 1] = figure(kind, row);
+    report[at + 2] = row.moves;
+    report[at + 3] = row.lates;
 }
 
 // The lines of all processes, over the report's first numbers.
@@ -43,7 +46,6 @@ pub fn write_lines(course: Course, rows: &[Row; ROWS], report: &mut [u32])
 {
     let shape = course.shape;
     for j in 0..shape.count as usize {
-        let at = j * LINE;
-        report[at..at + LINE].copy_from_slice(&line_of(shape.kind, &rows[j]));
+        write_line(shape.kind, &rows[j], j * LINE, report);
     }
 }

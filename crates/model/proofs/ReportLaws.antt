@@ -1,16 +1,14 @@
 -- Laws of the report, and of what a run returns and leaves, as code meets them: a line more; a run that is refused before its first record,
 -- or that goes on to its records.
 -- Assumes nothing.
-use Prim.Native.Nat.{ℕ, zero, suc, ◌+◌, ◌*◌, ◌-◌}
+use Prim.Native.Nat.{ℕ, zero, suc, ◌+◌, ◌*◌, ◌≤◌}
 use mathlib.Core.Path.{◌≡◌, refl, sym, ap, ap₂, ◌∙◌}
-use mathlib.Core.List.{List, ◌++◌}
+use mathlib.Core.List.{List, ◌++◌, append_assoc}
 use native.Mathlib.Nat.{zero-add}
-use native.Mathlib.Numerals.{add-one}
+use native.Mathlib.Numerals.{add-one, add-two, add-three}
 use native.Mathlib.Omega.{arith}
-use lib.ListN.{length, get_or, length-append}
-use borrow.Rule.Slice.PartMut.{put_mid}
-use native.Mathlib.Nat.{add-sub_cancel_left}
-use lib.Seq.{drop-drop}
+use lib.ListN.{length, take, drop, get_or, set, length-append}
+use lib.Seq.{sets-eq}
 use Rattle.terms.specs.Overlay.{overlay, spliced}
 use Rattle.terms.proofs.OverlayLaws.{spliced_front, spliced_then}
 use Rattle.terms.proofs.RefusalLaws.{some_number, same_name}
@@ -27,10 +25,14 @@ use Rattle.model.proofs.RunLaws.{run_refused, run_follows}
 -- LINES
 
 module _ (κ : Routine) where
-  -- a line copied over the part of the report from `at` on
-  pub line_copied : (r : Row) (at : ℕ) (l : List ℕ) → put_mid at (at + line_width - at) l (line κ r) ≡ spliced at (line κ r) l
+  -- four stores are a line
+  pub line_stored : (r : Row) (at : ℕ) (l : List ℕ) → at + line_width ≤ length l
+      → set (set (set (set l at (shown_place r)) (at + 1) (figure_of κ r)) (at + 2) r.moves) (at + 3) r.lates
+      ≡ spliced at (line κ r) l
   unfolding line spliced
-  line_copied r at l = rw (add-sub_cancel_left, drop-drop)
+  line_stored r at l h =
+      let new : List ℕ = line κ r in
+      rw (add-one, add-two, add-three) (sets-eq new l at h ∙ append_assoc (take at l) new (drop (at + line_width) l))
 
   pub length-lines : (rows : List Row) (k : ℕ) → length (lines κ rows k) ≡ k * line_width
   unfolding line lines

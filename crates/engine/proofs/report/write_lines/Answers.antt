@@ -2,7 +2,7 @@
 use Rattle.std.proofs.Common.{refl}
 use Rattle.model.specs.Routine.{routine}
 use Rattle.model.specs.Report.{lines}
-use Rattle.model.proofs.ReportLaws.{line_copied, lines_more}
+use Rattle.model.proofs.ReportLaws.{lines_more}
 use Rattle.engine.proofs.report.write_lines.Goals as goal
 
 pub loop-j-init : goal.loop-j-init
@@ -13,5 +13,4 @@ pub loop-j-preserved : goal.loop-j-preserved
 loop-j-preserved c =
     let l = c.loop-j in
     let a = c.args in
-    rw (c.copy_from_slice.ensures.after, c.line_of.ensures, line_copied)
-    (lines_more (routine a.course.shape) a.rows.now l.j a.report.now l.report l.invariant)
+    c.write_line.ensures ∙ lines_more (routine a.course.shape) a.rows.now l.j a.report.now l.report l.invariant
