@@ -19,7 +19,7 @@ use Rattle.model.specs.declared.Row.{Row}
 use Rattle.model.specs.Routine.{Routine}
 use Rattle.model.specs.Sizes.{line_width}
 use Rattle.model.specs.Run.{blank, shape, rest_of, run_refusal, records, reached, Progress, Progress.stopped}
-use Rattle.model.specs.Report.{line, lines, report_of, outcome_of, outcome_in, Outcome, Ran, ran_of}
+use Rattle.model.specs.Report.{shown_place, figure_of, line, lines, report_of, outcome_of, outcome_in, Outcome, Ran, ran_of}
 use Rattle.model.proofs.RunLaws.{run_refused, run_follows}
 
 -- LINES

@@ -1,5 +1,5 @@
 -- `engine::report::write_lines` meets its contract: each turn lays one line more. Assumes nothing.
-use Rattle.std.proofs.Common.{refl}
+use Rattle.std.proofs.Common.{◌∙◌, refl}
 use Rattle.model.specs.Routine.{routine}
 use Rattle.model.specs.Report.{lines}
 use Rattle.model.proofs.ReportLaws.{lines_more}
