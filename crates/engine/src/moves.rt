@@ -22,11 +22,11 @@ fn flag(v: u32, shared: &Shared) -> u32
     shared.flags[v as usize] as u32
 }
 
-// A move of process i.
+// A move of process i. One match: the places are closed, and a call through a table would cost more than a move.
 #[tactic(auto, unfolding(model::specs::Run::move_at, bank::specs::Registers::after_read, bank::specs::Registers::after_write))]
 fn make_move(course: Course, i: ProcessNumber, tick: u32, state: &mut State)
     requires numbered { Numbered i }
-    requires tick_le_top_tick { tick ≤ top_tick }
+    requires tick { tick ≤ top_tick }
     requires room { Room course.shape (row_of state.old i) }
     ensures { state.new ≡ move course.shape state.old i tick }
 {

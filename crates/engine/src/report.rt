@@ -28,7 +28,7 @@ fn figure(kind: Kind, row: &Row) -> u32
     }
 }
 
-// The line of the process with this row, at the report's number `at`.
+// The line of the process with this row, at the report's number `at`. Four stores: a line made and copied takes a run of 32 half as long again.
 pub fn write_line(kind: Kind, row: &Row, at: usize, report: &mut [u32])
     requires { at + line_width ≤ length report.old }
     ensures { report.new ≡ spliced at (line (routine_of kind) row.now) report.old }

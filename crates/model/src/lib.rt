@@ -148,7 +148,7 @@ impl Row {
 
     // A blank row becomes that of the process at index j, with start byte x.
     fn begin(&mut self, kind: Kind, j: u32, x: u8)
-        requires j_lt_most_processes { j < most_processes }
+        requires there { j < most_processes }
         requires blank { self.old ≡ blank }
         ensures { self.new ≡ Rattle.model.specs.Routine.begin (routine_of kind) j x }
     {

@@ -1,5 +1,5 @@
-// The deadline rule of the timed registers, in place over a bank whose parts are lent: a read or a write whose numbers are known to be good.
-// The crate `bank` refuses the others.
+// The deadline rule of the timed registers, in place over a bank whose parts are lent, as a C caller lends them: a read or a write whose numbers
+// are known to be good. The crate `bank` refuses the others. An index is a number by `as`: `usize` has no `From` a `u32`.
 #![tactic(auto)]
 
 ghost use Rattle.std.specs.Prelude.{◌≡◌};

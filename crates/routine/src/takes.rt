@@ -1,4 +1,5 @@
 // TAKE: where a process goes from its place with memory's answer, in place; a function for each place. A kind that has no such place only counts the move.
+// Each asks for `Room`, which a row has before a move and not after it, by its run's shape: no row could carry it. Kinds are closed: a match.
 ghost use Rattle.std.specs.Prelude.{◌+◌, ◌≤◌, ◌<◌, ◌≡◌, false};
 ghost use Rattle.terms.specs.Limits.{most_slots, top_tick};
 ghost use Rattle.model.specs.Bounds.{Sound, Room};
@@ -132,7 +133,7 @@ pub fn put(shape: Shape, late: bool, row: &mut Row)
 pub fn wait(shape: Shape, tick: u32, row: &mut Row)
     requires sound { Sound shape }
     requires room { Room shape row.old }
-    requires tick_le_top_tick { tick ≤ top_tick }
+    requires tick { tick ≤ top_tick }
     ensures { row.new ≡ taken shape Place.Wait (wake_at shape.delta tick) 0 false row.old }
 {
     row.count(false);

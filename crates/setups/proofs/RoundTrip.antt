@@ -21,7 +21,7 @@ use Rattle.setups.specs.declared.Setup.{Setup}
 use Rattle.setups.specs.Setup.{any_bad_start, setup_refusal, setup_read, setup_rest, rest_start, setup_head, setup_bytes}
 use Rattle.setups.specs.Setup.{WroteSetup, setup_fields, start_bytes, places}
 use Rattle.setups.proofs.SetupLaws.{Limits, limits_size, Head, AcceptedSetup, setup_said, said_setup, setup_accepted, rest_accepted}
-use Rattle.setups.proofs.SetupLaws.{start_count, WritableSetup, setup_write_said, said_setup_write}
+use Rattle.setups.proofs.SetupLaws.{start_count, setup_was_read, WritableSetup, setup_write_said, said_setup_write}
 
 -- the setup that a writer is given
 abbrev pub given : ℕ → ℕ → ℕ → ℕ → List ℕ → Setup
@@ -77,7 +77,7 @@ module _ (most kind size delta : ℕ) (starts before after : List ℕ) (r : Resu
   pub written_rest_back : (setup_rest most after ≡ drop (8 + length starts) before) × (rest_start most after ≡ 8 + length starts)
   written_rest_back = rw laid (rest_back most kind size delta starts _ writable.limits writable.good)
 
--- an accepted setup, written again from what was read of it, gives its bytes
+-- an accepted setup, written again from its fields, gives its bytes
 module _ (most : ℕ) (s : List ℕ) (bytes : AllBytes s) (ok : setup_refusal most s ≡ 0) where
   known : AcceptedSetup most s
   known = setup_said most s ok
@@ -102,8 +102,8 @@ module _ (most : ℕ) (s : List ℕ) (bytes : AllBytes s) (ok : setup_refusal mo
   kind_again : number_of (kind_of (byte 2 s)) ≡ byte 2 s
   kind_again = let l = known.head.limits in number_of_kind (byte 2 s) (inside 1 last_kind (byte 2 s) l.kind_low l.kind_high)
 
-  pub setup_again : let t = setup_fields most s in setup_bytes (number_of t.kind) t.size t.delta (take t.processes t.starts) ≡ take (8 + t.processes) s
-  setup_again = simp (kind_again, starts_again) bytes_again
+  fields_again : let t = setup_fields most s in setup_bytes (number_of t.kind) t.size t.delta (take t.processes t.starts) ≡ take (8 + t.processes) s
+  fields_again = simp (kind_again, starts_again) bytes_again
 
   -- from the writer's own promise, over any buffer that has room
   module _ (before after : List ℕ) (r : Result ℕ ℕ) (room : 8 + byte 3 s ≤ length before)
@@ -127,11 +127,25 @@ module _ (most : ℕ) (s : List ℕ) (bytes : AllBytes s) (ok : setup_refusal mo
           fits = omega arith;
         }
 
-    pub setup_rewritten : (r ≡ Ok (8 + byte 3 s)) × (after ≡ take (8 + byte 3 s) s ++ drop (8 + byte 3 s) before)
-    setup_rewritten =
+    fields_rewritten : (r ≡ Ok (8 + byte 3 s)) × (after ≡ take (8 + byte 3 s) s ++ drop (8 + byte 3 s) before)
+    fields_rewritten =
         let rec : List ℕ = setup_bytes (byte 2 s) (byte 4 s) delta (start_bytes s) in
         let count : length rec ≡ 8 + byte 3 s = omega (arith, start_count s known.head.whole) in
         let p = wrote_whole _ rec before r after (simp (kind_again, starts_again) at w) (said_setup_write _ _ _ _ _ writes) in (
           p.0 ∙ rw count,
           p.1 ∙ ap (λ (n : ℕ). rec ++ drop n before) count ∙ ap (λ (l : List ℕ). l ++ drop (8 + byte 3 s) before) bytes_again,
         )
+
+-- and so does a setup that was read
+module _ (most : ℕ) (s : List ℕ) (bytes : AllBytes s) {t : Setup} (read : setup_read most s ≡ Ok t) where
+  said : (setup_refusal most s ≡ 0) × (t ≡ setup_fields most s)
+  said = setup_was_read most s (sym read)
+
+  pub setup_again : setup_bytes (number_of t.kind) t.size t.delta (take t.processes t.starts) ≡ take (8 + t.processes) s
+  setup_again = rw said.1 (fields_again most s bytes said.0)
+
+  pub setup_rewritten : (before after : List ℕ) (r : Result ℕ ℕ) → 8 + t.processes ≤ length before
+      → WroteSetup most (number_of t.kind) t.size t.delta (take t.processes t.starts) before r after
+      → (r ≡ Ok (8 + t.processes)) × (after ≡ take (8 + t.processes) s ++ drop (8 + t.processes) before)
+  setup_rewritten before after r room w =
+      rw said.1 (fields_rewritten most s bytes said.0 before after r (rw said.1 at room) (rw said.1 at w))

@@ -195,7 +195,8 @@ fn setup_write_refusal(
     Ok(())
 }
 
-// Writes a setup of as many processes as start bytes are lent, over the buffer's first bytes.
+// Writes a setup of as many processes as start bytes are lent, over the buffer's first bytes. Kind and size are numbers, since a writer is
+// given any (3, 5).
 #[tactic(auto, using(crate::proofs::SetupLaws::writes_small))]
 pub fn write_setup(kind: u32, size: u32, delta: u16, starts: &[u8], buffer: &mut [u8]) -> Written
     ensures { WroteSetup most_processes kind size delta starts.now buffer.old (numbered result) buffer.new }

@@ -71,6 +71,8 @@ impl From<Refusal> for u32 {
     }
 }
 
+// Numbers in bytes, by names of the bench's own: entry points, each the library's method.
+
 // The number in 2 bytes, the lowest first.
 pub fn u16_of(a: u8, b: u8) -> u16
     ensures { result ≡ little_of (a ∷ b ∷ []) }
