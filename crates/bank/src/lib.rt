@@ -30,6 +30,7 @@ pub struct Called<T> {
 
 impl Bank {
     // All values empty, every pair unbound, last tick 0.
+    #[tactic(auto, unfolding(crate::specs::Registers::fresh_bank))]
     pub fn fresh() -> Self
         ensures { result ≡ fresh_bank }
     {

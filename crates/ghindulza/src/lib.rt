@@ -157,6 +157,7 @@ fn answer_code(answer: WriteAnswer) -> u32
 }
 
 // In place: a bank by value would be copied.
+#[tactic(auto, unfolding(bank::specs::Registers::fresh_bank))]
 #[unsafe(no_mangle)]
 pub extern "C" fn ghindulza_bank_fresh(
     values: &mut [u32; REGISTERS],
