@@ -29,16 +29,18 @@ pub struct Called<T> {
 }
 
 impl Bank {
-    // All values empty, every pair unbound, last tick 0.
+    // All values empty, every pair unbound, last tick 0. A constant too: what a function returns is copied.
+    pub const FRESH: Bank = Bank {
+        values: [0; REGISTERS],
+        deadlines: [Wait::UNLIMITED; PAIRS],
+        last: 0,
+    };
+
     #[tactic(auto, unfolding(crate::specs::Registers::fresh_bank))]
     pub fn fresh() -> Self
         ensures { result ≡ fresh_bank }
     {
-        Bank {
-            values: [0; REGISTERS],
-            deadlines: [Wait::UNLIMITED; PAIRS],
-            last: 0,
-        }
+        Self::FRESH
     }
 
     // The value of register c; the deadline of i and c becomes t + d, or unlimited.

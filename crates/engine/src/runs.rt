@@ -51,7 +51,7 @@ fn take_records(course: Course, rest: &[u8], state: &mut State) -> Outcome
 }
 
 // A run of the records of `rest`, from its fresh state to its report.
-#[tactic(auto, unfolding(model::specs::Run::blank_state))]
+#[tactic(auto, unfolding(model::specs::Run::blank_state, bank::specs::Registers::fresh_bank))]
 fn run_steps(course: Course, starts: [u8; PLACES], rest: &[u8], report: &mut [u32]) -> Outcome
     requires starts { Starts course.shape starts }
     requires short { length rest.now ≤ 8 * most_steps }
@@ -60,7 +60,7 @@ fn run_steps(course: Course, starts: [u8; PLACES], rest: &[u8], report: &mut [u3
 {
     let mut state = State {
         rows: [Row::BLANK; ROWS],
-        bank: Bank::fresh(),
+        bank: Bank::FRESH,
         shared: Shared {
             flags: [false; FLAGS],
         },

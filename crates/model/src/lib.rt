@@ -202,13 +202,13 @@ impl State {
     }
 
     // The state at the start of a run.
-    #[tactic(auto, unfolding(crate::specs::Run::blank_state))]
+    #[tactic(auto, unfolding(crate::specs::Run::blank_state, bank::specs::Registers::fresh_bank))]
     pub fn fresh(shape: Shape, starts: [u8; ROWS]) -> Self
         ensures { result ≡ fresh shape starts }
     {
         let mut state = State {
             rows: [Row::BLANK; ROWS],
-            bank: Bank::fresh(),
+            bank: Bank::FRESH,
             shared: Shared {
                 flags: [false; FLAGS],
             },
