@@ -1,34 +1,13 @@
--- What copies over the front of a buffer leave there, and pieces one after the other.
+-- Pieces over a part of a buffer, one after the other.
 -- Assumes nothing.
 use mathlib.Core.Path.{◌≡◌, ◌∙◌}
-use mathlib.Core.List.{List, [], ◌++◌, append_assoc, append-nil}
-use Prim.Native.Nat.{ℕ, ◌+◌, ◌-◌, ◌≤◌}
+use mathlib.Core.List.{List, ◌++◌, append_assoc}
+use Prim.Native.Nat.{ℕ, ◌+◌, ◌≤◌}
 use native.Mathlib.Nat.{zero-add}
 use native.Mathlib.Omega.{arith}
-use borrow.Rule.Slice.PartMut.{put_mid}
-use lib.ListN.{length, take, drop, length-append, length-take, length-drop, drop_of_length-le}
-use lib.Seq.{take-length, take-append_seam, drop-append_seam, drop-append-add, drop-drop}
+use lib.ListN.{length, take, drop, length-append, length-take}
+use lib.Seq.{take-append_seam, drop-append-add, drop-drop}
 use Rattle.terms.specs.Overlay.{overlay, spliced}
-use Rattle.terms.proofs.Parts.{part_to_end}
-
--- COPIES
-
--- what a copy of `src` over the front of `dst` leaves
-pub copied : (src dst : List ℕ) → take (length src) src ++ drop (length src) dst ≡ overlay src dst
-copied src dst = rw take-length
-
--- a copy of a over the front, and then one of b over the front of the part behind it: both together lie over the front
-pub copied_two : (a b buffer first second : List ℕ) → first ≡ take (length a) a ++ drop (length a) buffer
-    → second ≡ take (length b) b ++ drop (length b) (take (length first - length a) (drop (length a) first))
-    → put_mid (length a) (length first - length a) first second ≡ overlay (a ++ b) buffer
-copied_two a b buffer first second p q =
-    let n = length first - length a in
-    let after : drop n (drop (length a) first) ≡ [] = drop_of_length-le (drop (length a) first) {i = n} (omega (arith, length-drop (length a) first)) in
-    let front : first ≡ overlay a buffer = p ∙ copied a buffer in
-    let rest : second ≡ overlay b (drop (length a) buffer) = q ∙ rw (take-length, part_to_end, front, drop-append_seam) in
-    rw (after, append-nil, rest, front, take-append_seam, length-append, ← drop-drop, append_assoc)
-
--- PIECES
 
 -- a piece at the beginning lies over the front
 pub spliced_front : (piece s : List ℕ) → spliced 0 piece s ≡ overlay piece s
