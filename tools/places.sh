@@ -18,7 +18,7 @@ lines '\b(refusal|no|bad|number|process|slot|call) != 0' | count 1c "a refusal's
 lines 'kind: u(8|32)|event: u(8|32)|[^_]code\(place|place_of\(' | count 1d "a number for a kind, an event or a place"
 lines '\b(while|loop)\b.*\{' | count 3 "loops that count by hand"
 lines '=> (true|false|[0-9]+),' | count 4a "equality, order and numbers of variants written out, a line a variant"
-lines '\bas (u16|u32|u64|usize)\b' | count 4b "conversions by as that lose nothing in any case or by a test"
+lines '\bas (u8|u16|u32|u64|usize)\b' | count 4b "conversions by as, each proved to lose nothing"
 lines '\b(values|deadlines|last|flags|newest|rows): *&' | count 5a "parts of a state lent apart"
 awk '/^ *requires /{ t = $0; sub(/^[^{]*\{ */, "", t); sub(/ *\}.*/, "", t); n[t]++; at[t] = at[t] FILENAME ":" FNR " " }
      END { for (t in n) if (n[t] > 2) for (i = 0; i < n[t]; i++) print t ": " at[t] }' $src | sort | count 5b "clauses of a fact that three or more functions require"

@@ -1,9 +1,10 @@
 -- Each promise settles its outcome. (`Settles` has the meaning.)
 -- Assumes nothing.
 use mathlib.Core.Path.{◌≡◌, refl, sym, ◌∙◌}
+use mathlib.Core.List.{List}
 use contract.Lifetimes.{Lfts}
 use denote.Triple.Clauses.{Lasts, at_exit}
-use borrow.Fn.Kinds.{Dens, res_t, ended_of}
+use borrow.Fn.Kinds.{ParamKind, ResultKind, Out, Dens, res_t, ended_of}
 use denote.RattleType.{RattleType}
 use denote.Param.Laws.{Laws}
 use mir.Syntax.{Dict}
@@ -20,16 +21,20 @@ use Rattle.answers.proofs.is_late.Reads as is_late_reads
 pub value_settles : Settles 0 value_kinds.ps value_kinds.r value_reads.Post
 value_settles κs a x y u v p q = (p ∙ sym q, refl)
 
-pub is_done_settles : Settles 0 is_done_kinds.ps is_done_kinds.r is_done_reads.Post
-is_done_settles κs a x y u v p q = (p ∙ sym q, refl)
+-- What each of these takes may hold a borrow, at any type of what is answered or refuses: its result is settled at each type.
 
-pub is_late_settles : Settles 0 is_late_kinds.ps is_late_kinds.r is_late_reads.Post
-is_late_settles κs a x y u v p q = (p ∙ sym q, refl)
+-- a promise of one argument, at a type T
+abbrev pub Settled : (ps : List (ParamKind 1)) (r : ResultKind 1) → Out 1 ps r → Type 0
+Settled ps r Post =
+    (κs : Lfts 1) (a : Dens κs ps) (x y : (res_t r κs).Denot) (u v : Lasts (ended_of 1 ps r) κs a)
+    → Post κs a x (at_exit (ended_of 1 ps r) κs a u) → Post κs a y (at_exit (ended_of 1 ps r) κs a v) → x ≡ y
 
--- `number` takes any answer, one that holds a borrow too: its result is settled at each type of what is answered
-pub number_settles : (T : RattleType) (l : Laws T) (d : Dict) (κs : Lfts 1) (a : Dens κs (number_kinds.ps T l))
-    (x y : (res_t (number_kinds.r T l) κs).Denot) (u v : Lasts (ended_of 1 (number_kinds.ps T l) (number_kinds.r T l)) κs a)
-    → number_reads.Post T l d κs a x (at_exit (ended_of 1 (number_kinds.ps T l) (number_kinds.r T l)) κs a u)
-    → number_reads.Post T l d κs a y (at_exit (ended_of 1 (number_kinds.ps T l) (number_kinds.r T l)) κs a v)
-    → x ≡ y
-number_settles T l d κs a x y u v p q = p ∙ sym q
+module _ (T : RattleType) (l : Laws T) (d : Dict) where
+  pub number_settles : Settled (number_kinds.ps T l) (number_kinds.r T l) (number_reads.Post T l d)
+  number_settles κs a x y u v p q = p ∙ sym q
+
+  pub is_done_settles : Settled (is_done_kinds.ps T l) (is_done_kinds.r T l) (is_done_reads.Post T l d)
+  is_done_settles κs a x y u v p q = p ∙ sym q
+
+  pub is_late_settles : Settled (is_late_kinds.ps T l) (is_late_kinds.r T l) (is_late_reads.Post T l d)
+  is_late_settles κs a x y u v p q = p ∙ sym q

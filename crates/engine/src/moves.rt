@@ -19,7 +19,7 @@ fn flag(v: u32, shared: &Shared) -> u32
     requires { v ≤ most_slots }
     ensures { result ≡ flag_at shared.now v }
 {
-    shared.flags[v as usize] as u32
+    u32::from(shared.flags[v as usize])
 }
 
 // A move of process i. One match: the places are closed, and a call through a table would cost more than a move.

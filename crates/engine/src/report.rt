@@ -1,6 +1,5 @@
 // The report: a line of numbers a process.
 ghost use Rattle.std.specs.Prelude.{◌≡◌, ◌+◌, ◌*◌, ◌≤◌, length};
-ghost use Rattle.terms.specs.Limits.{most_processes};
 ghost use Rattle.terms.specs.Overlay.{overlay, spliced};
 ghost use Rattle.model.specs.Routine.{routine_of, routine};
 ghost use Rattle.model.specs.Sizes.{line_width};
@@ -16,9 +15,10 @@ fn shown_place(row: &Row) -> u32
     if row.crashed {
         return 9;
     }
-    row.local.place.number()
+    u32::from(row.local.place)
 }
 
+// By kind, which are closed: a match.
 fn figure(kind: Kind, row: &Row) -> u32
     ensures { result ≡ figure_of (routine_of kind) row.now }
 {

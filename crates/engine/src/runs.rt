@@ -38,6 +38,7 @@ fn take_records(course: Course, rest: &[u8], state: &mut State) -> Outcome
     requires begins { Begins course.shape state.old }
     ensures { Walked course.shape state.old rest.now result state.new }
 {
+    // By number and not by `chunks`, since a record is said of the bytes from it on; a match, since a closure for `map_err` would be proved of by itself.
     let records = rest.len().div_ceil(8);
     for k in 0..records {
         let begin = k * 8;
@@ -58,6 +59,7 @@ fn run_steps(course: Course, starts: [u8; PLACES], rest: &[u8], report: &mut [u3
     requires room { line_width * course.shape.count ≤ length report.old }
     ensures { record { outcome = outcome_in result; report = report.new } ≡ ran_from course.shape starts rest.now report.old }
 {
+    // As `State::fresh` has it: a state that is returned, or a constant, is copied.
     let mut state = State {
         rows: [Row::BLANK; ROWS],
         bank: Bank::FRESH,

@@ -19,7 +19,8 @@ pub const MOST_INPUT: usize = 65536;
 // A buffer that any text fits.
 pub const TEXT: usize = 2048;
 
-// A text that grows. What is put on a page stands behind what it has, and wants the room.
+// A text that grows. What is put on a page stands behind what it has, and wants the room: so much as that piece is long, which no type could say.
+// It is put by hand: what `write!` promises of an error is nothing, and no text of this crate may be cut.
 type Page = ArrayString<TEXT>;
 
 // The byte at index i, 0 past the end.

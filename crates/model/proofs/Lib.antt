@@ -27,3 +27,4 @@ pub mod StartLaws
 pub mod ReportLaws
 pub mod Examples
 pub mod Settled
+pub mod RowLaws

@@ -2,8 +2,8 @@
 -- Assumes nothing.
 use mathlib.Core.Path.{refl, sym, ◌∙◌}
 use Rattle.terms.proofs.Settles.{Settles}
-use Rattle.model.proofs.Place.number.Kinds as number_kinds
-use Rattle.model.proofs.Place.number.Reads as number
+use Rattle.model.proofs.U32FromPlace.from.Kinds as number_kinds
+use Rattle.model.proofs.U32FromPlace.from.Reads as number
 use Rattle.model.proofs.Row.count.Kinds as count_kinds
 use Rattle.model.proofs.Row.count.Reads as count
 use Rattle.model.proofs.Row.crash.Kinds as crash_kinds

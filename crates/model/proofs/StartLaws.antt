@@ -13,7 +13,7 @@ use lib.Seq.{ext_get_or, get_or-set_same, get_or-set_other}
 use Rattle.terms.specs.Limits.{most_processes}
 use Rattle.model.specs.declared.Shape.{Shape}
 use Rattle.model.specs.declared.Row.{Row}
-use Rattle.model.specs.Routine.{routine, begin}
+use Rattle.model.specs.Routine.{Routine, routine, begin, begun}
 use Rattle.model.specs.Run.{blank, start_row, start_rows}
 use Rattle.model.proofs.Keeping.{length-start_rows, get_or-start_rows}
 
@@ -26,6 +26,12 @@ all_blank : (n i : ℕ) → get_or (replicate n blank) i blank ≡ blank
 all_blank zero i = refl
 all_blank (suc n) zero = refl
 all_blank (suc n) (suc i) = all_blank n i
+
+-- a row that begins is a blank one, but for its place, its slot and the value that it writes
+pub begun_from_blank : (κ : Routine) (j x : ℕ) {r : Row} → r ≡ blank → begun (begin κ j x) r ≡ begin κ j x
+begun_from_blank (Routine.Lock how) j x e = rw e
+begun_from_blank Routine.Plain j x e = rw e
+begun_from_blank Routine.Fast j x e = rw e
 
 module _ (u : Shape) (xs : List ℕ) where
   pub filled_none : (r : Row) → r ≡ blank → Filled u xs 0 (replicate most_processes r)

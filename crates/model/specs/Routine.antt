@@ -170,6 +170,17 @@ begin (Routine.Lock how) j x = unmoved Place.Rest (slot_of x) (j + 1)
 begin Routine.Plain j x = unmoved Place.Look (slot_of 0) x
 begin Routine.Fast j x = unmoved Place.Flag (slot_of 0) x
 
+-- a row with the place, the slot and the value of one that begins
+abbrev pub begun : Row → Row → Row
+begun b r =
+    record {
+      local = on b.local.slot (to b.local.place r.local);
+      own = b.own;
+      moves = r.moves;
+      lates = r.lates;
+      crashed = r.crashed;
+    }
+
 abbrev pub is_decided : Place → Bool
 is_decided Place.Rest = false
 is_decided Place.Look = false

@@ -5,8 +5,8 @@ ghost use Rattle.std.specs.Prelude.{◌≡◌, ◌<◌};
 ghost use Rattle.terms.specs.Limits.{most_processes};
 ghost use Rattle.model.specs.Bounds.{Uncounted};
 ghost use Rattle.model.specs.Report.{shown_of};
-ghost use Rattle.model.specs.Routine.{routine_of, counted, crash};
-ghost use Rattle.model.specs.Run.{blank, blank_state, fresh};
+ghost use Rattle.model.specs.Routine.{routine_of, counted, crash, begun};
+ghost use Rattle.model.specs.Run.{blank_state, fresh};
 
 use bank::Bank;
 use kinds::Kind;
@@ -121,12 +121,12 @@ impl From<Refusal> for Refused {
     }
 }
 
-impl Place {
-    // What the report shows of it.
-    pub fn number(self) -> u32
-        ensures { result ≡ shown_of self }
-    {
-        self as u32
+// What the report shows of a place.
+impl From<Place> for u32 {
+    ghost from_gives = { λ place n. n ≡ shown_of place };
+
+    fn from(place: Place) -> u32 {
+        place as u32
     }
 }
 
@@ -146,28 +146,20 @@ impl Row {
         crashed: false,
     };
 
-    // A blank row becomes that of the process at index j, with start byte x.
+    // The process at index j, with start byte x, begins: its place, its slot and the value that it writes. Kinds are closed: a match.
     fn begin(&mut self, kind: Kind, j: u32, x: u8)
-        requires there { j < most_processes }
-        requires blank { self.old ≡ blank }
-        ensures { self.new ≡ Rattle.model.specs.Routine.begin (routine_of kind) j x }
+        requires { j < most_processes }
+        ensures { self.new ≡ begun (Rattle.model.specs.Routine.begin (routine_of kind) j x) self.old }
     {
-        let start = x as u32;
-        match kind {
-            Kind::Lock => {
-                self.local.place = Place::Rest;
-                self.local.slot = SlotNumber(start);
-                self.own = j + 1;
-            }
-            Kind::Plain => {
-                self.local.place = Place::Look;
-                self.own = start;
-            }
-            Kind::Fast => {
-                self.local.place = Place::Flag;
-                self.own = start;
-            }
-        }
+        let start = u32::from(x);
+        let (place, slot, own) = match kind {
+            Kind::Lock => (Place::Rest, start, j + 1),
+            Kind::Plain => (Place::Look, 0, start),
+            Kind::Fast => (Place::Flag, 0, start),
+        };
+        self.local.place = place;
+        self.local.slot = SlotNumber(slot);
+        self.own = own;
     }
 
     // A move, and a late write where the write was late, are counted.

@@ -1,5 +1,6 @@
-// What a call of the bank is refused for, by its numbers alone: 11, 17, 13 and, for a read, 18, in the order of document 01.
-#![tactic(auto, using(terms::proofs::RefusalLaws::stops, terms::proofs::RefusalLaws::goes_on), unfolding(crate::specs::Refusals::call_refusal, crate::specs::Refusals::read_refusal))]
+// What a call of the bank is refused for, by its numbers alone: 11, 17, 13 and, for a read, 18, in the order of document 01. The numbers come apart,
+// as the bank is given them: a struct would be made for the call alone.
+#![tactic(auto, using(terms::proofs::RefusalLaws::in_turn), unfolding(crate::specs::Refusals::call_refusal, crate::specs::Refusals::read_refusal))]
 
 ghost use Rattle.std.specs.Prelude.{◌≡◌};
 ghost use Rattle.terms.specs.Refusal.{refusal_in};

@@ -1,5 +1,6 @@
 // TAKE: where a process goes from its place with memory's answer, in place; a function for each place. A kind that has no such place only counts the move.
-// Each asks for `Room`, which a row has before a move and not after it, by its run's shape: no row could carry it. Kinds are closed: a match.
+// Each asks for `Room`, which a row has before a move and not after it, by its run's shape: no row could carry it; three ask for a sound shape, and a
+// type that has it would ask it of all. Kinds are closed: a match, whose arms follow the figures, equal or not.
 ghost use Rattle.std.specs.Prelude.{◌+◌, ◌≤◌, ◌<◌, ◌≡◌, false};
 ghost use Rattle.terms.specs.Limits.{most_slots, top_tick};
 ghost use Rattle.model.specs.Bounds.{Sound, Room};

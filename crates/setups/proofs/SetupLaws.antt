@@ -17,7 +17,7 @@ use Rattle.terms.specs.Little.{AllBytes}
 use Rattle.terms.specs.Refusal.{any_from, number, refusal_in, numbered}
 use Rattle.terms.specs.declared.Refusal.{Refusal}
 use Rattle.terms.proofs.RefusalLaws.{if_refused, then_both, passed, refuse-false, both_false, not_outside, inside, accepted_says, refused_says}
-use Rattle.terms.proofs.RefusalLaws.{ok_is_no_error, some_number, stops, goes_on}
+use Rattle.terms.proofs.RefusalLaws.{some_number, stops, goes_on}
 use Rattle.kinds.specs.declared.Kind.{Kind}
 use Rattle.kinds.specs.Kinds.{last_kind, kind_of}
 use Rattle.records.specs.Record.{byte}

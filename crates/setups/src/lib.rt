@@ -16,7 +16,7 @@ const MARK: [u8; 2] = [0x4F, 0x53];
 // The places of the start bytes, one for each process that there may be.
 pub const PLACES: usize = Trace::PROCESSES as usize;
 
-// `size` is ℓ in kind 1 and b in the others; `starts` has 0 in the places beyond `processes`.
+// `size` is ℓ in kind 1 and b in the others; `starts` has 0 in the places beyond `processes` (no heap, and C lends as many).
 #[derive(Clone, Copy, Debug, PartialEq, Eq)]
 pub struct Setup {
     pub kind: Kind,

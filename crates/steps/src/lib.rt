@@ -1,5 +1,5 @@
 // The step record: mark, process, event, tick. 8 bytes.
-#![tactic(auto, using(terms::proofs::RefusalLaws::stops, terms::proofs::RefusalLaws::goes_on), unfolding(crate::specs::Step::step_write_refusal))]
+#![tactic(auto, using(terms::proofs::RefusalLaws::in_turn), unfolding(crate::specs::Step::step_write_refusal))]
 
 ghost use Rattle.std.specs.Prelude.{◌≡◌};
 ghost use Rattle.terms.specs.Limits.{most_processes};

@@ -124,6 +124,9 @@ stops e a b h = rw (← h, then_stop (number e) (some_number e) b)
 pub goes_on : (a b : ℕ) → 0 ≡ a → {k : ℕ} → k ≡ b → k ≡ (a then b)
 goes_on a b h e = rw (← h) e
 
+-- both, for the tests of a table by `?`
+pub ruleset in_turn = (stops, goes_on)
+
 -- an answer is settled by its numbers
 pub refusal_settles : (x y : Result (Unit {0}) Refusal) → refusal_in x ≡ refusal_in y → x ≡ y
 refusal_settles (Ok a) (Ok b) h = refl

@@ -3,9 +3,6 @@ use Rattle.std.proofs.lemmas.Result.{err_from_is_err_and}
 use Rattle.engine.proofs.Walk.{ran_refused, ran_accepted}
 use Rattle.engine.proofs.runs.run_steps.Goals as goal
 
-pub take_records-requires-clause-begins : goal.take_records-requires-clause-begins
-take_records-requires-clause-begins c = record { bytes = c.args.starts; starts = c.requires.starts; fresh = c.begin.ensures }
-
 pub returns-in_err-accepted : goal.returns-in_err-accepted
 returns-in_err-accepted c =
     let p = err_from_is_err_and c.from_residual.result c.from_residual.ensures.1 in

@@ -3,8 +3,9 @@ use Rattle.std.proofs.Common.{◌≡◌, refl, sym, ap, ◌∙◌, rules, arith,
 use Rattle.terms.specs.Limits.{most_processes}
 use Rattle.bank.specs.Registers.{fresh_bank, fresh_bank_of}
 use Rattle.model.specs.declared.State.{State}
+use Rattle.model.specs.Routine.{routine}
 use Rattle.model.specs.Run.{blank_state, fresh}
-use Rattle.model.proofs.StartLaws.{filled_none, filled_more, filled_done}
+use Rattle.model.proofs.StartLaws.{filled_none, filled_more, filled_done, begun_from_blank}
 use Rattle.model.proofs.State.begin.Goals as goal
 
 pub loop-j-init : goal.loop-j-init
@@ -21,7 +22,8 @@ loop-j-preserved c =
     let l = c.loop-j in
     let i = l.invariant in
     record {
-      rows = filled_more c.args.shape c.args.starts l.j l.self.rows i.rows (omega arith) (omega arith) c.begin.ensures;
+      rows = filled_more c.args.shape c.args.starts l.j l.self.rows i.rows (omega arith) (omega arith)
+      (c.begin.ensures ∙ begun_from_blank (routine c.args.shape) _ _ (i.rows.others l.j (omega arith)));
       bank = i.bank;
       shared = i.shared;
       newest = i.newest;
