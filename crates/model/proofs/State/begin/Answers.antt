@@ -23,7 +23,7 @@ loop-j-preserved c =
     let i = l.invariant in
     record {
       rows = filled_more c.args.shape c.args.starts l.j l.self.rows i.rows (omega arith) (omega arith)
-      (c.begin.ensures ∙ begun_from_blank (routine c.args.shape) _ _ (i.rows.others l.j (omega arith)));
+          (c.begin.ensures ∙ begun_from_blank (routine c.args.shape) _ _ (i.rows.others l.j (omega arith)));
       bank = i.bank;
       shared = i.shared;
       newest = i.newest;
