@@ -3,9 +3,10 @@
 
 ghost use Rattle.std.specs.Prelude.{◌≡◌, ◌<◌};
 ghost use Rattle.terms.specs.Limits.{most_processes};
+ghost use Rattle.terms.specs.Numbers.{slot_of};
 ghost use Rattle.model.specs.Bounds.{Uncounted};
 ghost use Rattle.model.specs.Report.{shown_of};
-ghost use Rattle.model.specs.Routine.{routine_of, counted, crash, begun};
+ghost use Rattle.model.specs.Routine.{routine_of, counted, crash, begun, unmoved};
 ghost use Rattle.model.specs.Run.{blank_state, fresh};
 
 use bank::Bank;
@@ -152,11 +153,16 @@ impl Row {
         ensures { self.new ≡ begun (Rattle.model.specs.Routine.begin (routine_of kind) j x) self.old }
     {
         let start = u32::from(x);
-        let (place, slot, own) = match kind {
-            Kind::Lock => (Place::Rest, start, j + 1),
-            Kind::Plain => (Place::Look, 0, start),
-            Kind::Fast => (Place::Flag, 0, start),
-        };
+        match kind {
+            Kind::Lock => self.start(Place::Rest, start, j + 1),
+            Kind::Plain => self.start(Place::Look, 0, start),
+            Kind::Fast => self.start(Place::Flag, 0, start),
+        }
+    }
+
+    fn start(&mut self, place: Place, slot: u32, own: u32)
+        ensures { self.new ≡ begun (unmoved place (slot_of slot) own) self.old }
+    {
         self.local.place = place;
         self.local.slot = SlotNumber(slot);
         self.own = own;
