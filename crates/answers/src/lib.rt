@@ -2,7 +2,7 @@
 #![tactic(auto)]
 
 ghost use Rattle.std.specs.Prelude.{◌≡◌};
-ghost use Rattle.terms.specs.Refusal.{refusal_in};
+ghost use Rattle.terms.specs.Refusal.{refusal_in, number_in};
 ghost use Rattle.answers.specs.Answers.{read_value, is_done, is_late};
 
 use terms::Refusal;
@@ -29,14 +29,21 @@ pub fn number<T: Drop>(answer: Result<T, Refusal>) -> u32
     }
 }
 
+// The same where a number refuses, any number.
+pub fn number_in<T: Drop>(answer: Result<T, u32>) -> u32
+    ensures { result ≡ number_in answer }
+{
+    answer.err().unwrap_or(0)
+}
+
+// These three ask nothing of what refuses: its number will do as well.
+
 // The value read, 0 where the read was refused.
-pub fn value(answer: ReadAnswer) -> u32
+pub fn value<E: Drop>(answer: Result<u32, E>) -> u32
     ensures { result ≡ read_value answer }
 {
     answer.unwrap_or(0)
 }
-
-// These two ask nothing of what refuses: its number will do as well.
 
 pub fn is_done<E: Drop>(answer: Result<Write, E>) -> bool
     ensures { result ≡ is_done answer }

@@ -2,6 +2,7 @@
 use Rattle.std.specs.Prelude.{ℕ, ◌≡◌, List, [], ◌∷◌, length, replicate, Result, Ok, Err}
 use Rattle.terms.specs.Limits.{most_processes}
 use Rattle.terms.specs.Numbers.{process_of}
+use Rattle.terms.specs.Refusal.{number_in}
 use Rattle.kinds.specs.Kinds.{number_of}
 use Rattle.answers.specs.declared.Write.{Write}
 use Rattle.answers.specs.Answers.{read_value}
@@ -15,11 +16,6 @@ use Rattle.model.specs.Report.{Ran}
 -- a run: the number of the refusal, the count of accepted steps or the record of the refusal, and the report
 abbrev pub ran_out : ℕ → ℕ → List ℕ → Ran
 ran_out number at report = record { outcome = record { number = number; at = at }; report = report }
-
--- the number of the refusal, 0 for none
-abbrev pub number_in : {A : Type 0} → Result A ℕ → ℕ
-number_in (Ok x) = 0
-number_in (Err k) = k
 
 -- kind, n, ℓ or b, byte 5 (0 in every accepted setup), Δ; 0 each where the setup is refused
 abbrev pub setup_numbers : Result Setup ℕ → List ℕ

@@ -11,7 +11,7 @@ use lib.Dec.{ltb}
 use Rattle.std.specs.Prelude.{Result, Ok, Err}
 use Rattle.std.specs.Result.{result_unwrap_or}
 use Rattle.terms.specs.declared.Refusal.{Refusal}
-use Rattle.terms.specs.Refusal.{refuse, ◌then◌, if_accepted, outside, number, refusal_in, numbered}
+use Rattle.terms.specs.Refusal.{refuse, ◌then◌, if_accepted, outside, number, refusal_in, numbered, number_in}
 
 -- a test that accepts hands on, and one that refuses decides
 pub then_on : (a b : ℕ) → a ≡ 0 → (a then b) ≡ b
@@ -138,15 +138,11 @@ pub ok_is_no_error : {A E : Type 0} {x : A} {e : E} → ◌≡◌ {A = Result A 
 ok_is_no_error h = cc
 
 -- the same of an answer with its number
-abbrev error_of : {A : Type 0} → Result A ℕ → ℕ
-error_of (Ok x) = 0
-error_of (Err k) = k
-
 pub numbers_settle : {A : Type 0} (x y : Result A Refusal) → numbered x ≡ numbered y → x ≡ y
 numbers_settle (Ok a) (Ok b) h = ap Ok (ap (λ r. result_unwrap_or r a) h)
 numbers_settle (Ok a) (Err e) h = absurd (ok_is_no_error h)
 numbers_settle (Err e) (Ok b) h = absurd (ok_is_no_error (sym h))
-numbers_settle (Err d) (Err e) h = ap Err (same_name d e (ap error_of h))
+numbers_settle (Err d) (Err e) h = ap Err (same_name d e (ap number_in h))
 
 -- what an answer by a table says of it
 pub accepted_says : (k : ℕ) {A : Type 0} (x : A) {y : A} → Ok y ≡ if_accepted k (Ok x) (Err k) → (k ≡ 0) × (y ≡ x)
@@ -156,7 +152,7 @@ accepted_says (suc k) x e = absurd (ok_is_no_error e)
 pub refused_says : (k : ℕ) {A : Type 0} (x : A) {n : ℕ} → Err n ≡ if_accepted k (Ok x) (Err k) → (k ≡ n) × (n ≡ 0 → ⊥)
 refused_says zero x e = absurd (ok_is_no_error (sym e))
 refused_says (suc k) x {n} e =
-    let same : n ≡ suc k = ap error_of e in
+    let same : n ≡ suc k = ap number_in e in
     (sym same, λ z. absurd (omega (arith, same, z)))
 
 -- and what such an answer is

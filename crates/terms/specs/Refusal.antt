@@ -58,3 +58,8 @@ refusal_in (Err e) = number e
 abbrev pub numbered : {A : Type 0} → Result A Refusal → Result A ℕ
 numbered (Ok x) = Ok x
 numbered (Err e) = Err (number e)
+
+-- the number of the refusal, 0 for none
+abbrev pub number_in : {A : Type 0} → Result A ℕ → ℕ
+number_in (Ok x) = 0
+number_in (Err k) = k
