@@ -1,2 +1,3 @@
 pub mod SetupParts
 pub mod Settled
+pub mod RoundTrip

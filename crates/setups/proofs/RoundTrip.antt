@@ -99,7 +99,7 @@ module _ (most : ℕ) (s : List ℕ) (bytes : AllBytes s) (ok : setup_refusal mo
   starts_again : take (byte 3 s) (places most (start_bytes s)) ≡ start_bytes s
   starts_again = take_at (start_bytes s) (drop (length (start_bytes s)) (replicate most 0)) (byte 3 s) (start_count s known.head.whole)
 
-  kind_again : number_of (kind_of (byte 2 s)) ≡ byte 2 s
+  pub kind_again : number_of (kind_of (byte 2 s)) ≡ byte 2 s
   kind_again = let l = known.head.limits in number_of_kind (byte 2 s) (inside 1 last_kind (byte 2 s) l.kind_low l.kind_high)
 
   fields_again : let t = setup_fields most s in setup_bytes (number_of t.kind) t.size t.delta (take t.processes t.starts) ≡ take (8 + t.processes) s
