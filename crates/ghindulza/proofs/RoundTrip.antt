@@ -75,7 +75,7 @@ module _ (s : List ℕ) (bytes : AllBytes s) {k : Step} (read : step_read most_p
       let p = step_rewritten s bytes read before after told.answer room told.left in
       (told.told ∙ ap written_out p.0, p.1)
 
--- and of each writer that is its own promise, as the check reads it
+-- `Told` above is the promise of each writer, as the check reads it
 pub write_setup_tells : (κs : Lfts 3) (a : Dens κs write_setup_kinds.ps) (number : ℕ)
     (u : Lasts (ended_of 3 write_setup_kinds.ps write_setup_kinds.r) κs a)
     → write_setup_reads.Post κs a number (at_exit (ended_of 3 write_setup_kinds.ps write_setup_kinds.r) κs a u)
