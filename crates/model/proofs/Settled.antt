@@ -8,6 +8,8 @@ use Rattle.model.proofs.Row.count.Kinds as count_kinds
 use Rattle.model.proofs.Row.count.Reads as count
 use Rattle.model.proofs.Row.crash.Kinds as crash_kinds
 use Rattle.model.proofs.Row.crash.Reads as crash
+use Rattle.model.proofs.Row.begin.Kinds as row_begin_kinds
+use Rattle.model.proofs.Row.begin.Reads as row_begin
 use Rattle.model.proofs.State.begin.Kinds as begin_kinds
 use Rattle.model.proofs.State.begin.Reads as begin
 use Rattle.model.proofs.State.fresh.Kinds as fresh_kinds
@@ -23,6 +25,9 @@ count_settles κs a x y u v p q = (refl, (λ k. ((p ∙ sym q) k, (tt, tt))))
 
 pub crash_settles : Settles 1 crash_kinds.ps crash_kinds.r crash.Post
 crash_settles κs a x y u v p q = (refl, (λ k. ((p ∙ sym q) k, tt)))
+
+pub row_begin_settles : Settles 1 row_begin_kinds.ps row_begin_kinds.r row_begin.Post
+row_begin_settles κs a x y u v p q = (refl, (λ k. ((p ∙ sym q) k, (tt, (tt, (tt, tt))))))
 
 pub begin_settles : Settles 1 begin_kinds.ps begin_kinds.r begin.Post
 begin_settles κs a x y u v p q = (refl, (λ k. ((p ∙ sym q) k, (tt, (tt, tt)))))
