@@ -1,4 +1,5 @@
--- Reading a report: an accepted run is one that went on to its end, and the four numbers of row j stand from 4 × j on.
+-- Reading a report: a number is shown of one place, an accepted run is one that went on to its end, and the four numbers of row j stand from
+-- 4 × j on.
 -- Assumes nothing.
 use Prim.Native.Nat.{ℕ, zero, suc, ◌+◌, ◌*◌, ◌<◌}
 use mathlib.Core.Path.{◌≡◌, refl, sym, ap, ap₂, ◌∙◌}
@@ -15,14 +16,36 @@ use Rattle.records.specs.Record.{byte}
 use Rattle.model.specs.declared.Place.{Place}
 use Rattle.model.specs.declared.Row.{Row}
 use Rattle.model.specs.declared.State.{State}
+use Rattle.model.specs.Places.{code_of, place_of}
 use Rattle.model.specs.Routine.{Routine, routine}
 use Rattle.model.specs.Sizes.{line_width}
 use Rattle.model.specs.Run.{blank, row_at, Tape, advance, follow, run_on, rest_of, records, shape, run_of, Progress, Progress.going, Progress.stopped}
 use Rattle.model.specs.Claims.{shown}
 use Rattle.model.specs.Report.{shown_of, shown_place, figure_of, line, lines, report_of, outcome_of, ran_of, Outcome}
-use Rattle.model.proofs.Places.{imply, concluded, inside}
+use Rattle.model.proofs.Places.{place_of_code, one_place, imply, concluded, inside}
 use Rattle.model.proofs.ReportLaws.{length-lines}
 use Rattle.model.proofs.RunLaws.{going-stopped}
+
+-- A PLACE HAS A NUMBER
+
+-- the number that is shown of a place (`u32::from`) is its code
+pub shown_is_code : (p : Place) → shown_of p ≡ code_of p
+shown_is_code Place.Rest = refl
+shown_is_code Place.Look = refl
+shown_is_code Place.Put = refl
+shown_is_code Place.Wait = refl
+shown_is_code Place.Check = refl
+shown_is_code Place.Critical = refl
+shown_is_code Place.Flag = refl
+shown_is_code Place.Scan = refl
+shown_is_code Place.Decided = refl
+
+-- so it is that of one place
+pub place_of_shown : (p : Place) → place_of (shown_of p) ≡ p
+place_of_shown p = ap place_of (shown_is_code p) ∙ place_of_code p
+
+pub one_shown : (p q : Place) → shown_of p ≡ shown_of q → p ≡ q
+one_shown p q e = one_place p q (sym (shown_is_code p) ∙ e ∙ shown_is_code q)
 
 -- A REFUSAL HAS A NUMBER
 
