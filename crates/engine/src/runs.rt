@@ -13,9 +13,10 @@ use crate::course::Course;
 use crate::{moves, report};
 use bank::Bank;
 use model::{FLAGS, LINE, Outcome, ROWS, Refused, Row, Shape, Shared, State};
+use registers::{PAIRS, REGISTERS};
 use routine::judges;
 use setups::{PLACES, Setup};
-use terms::{Refusal, Trace};
+use terms::{Refusal, Trace, Wait};
 
 // The record that s begins with: taken, or refused by its bytes or by the state, which then stays as it was.
 #[tactic(auto, unfolding(model::specs::Run::record_refusal))]
@@ -59,15 +60,22 @@ fn run_steps(course: Course, starts: [u8; PLACES], rest: &[u8], report: &mut [u3
     requires room { line_width * course.shape.count ≤ length report.old }
     ensures { record { outcome = outcome_in result; report = report.new } ≡ ran_from course.shape starts rest.now report.old }
 {
-    // As `State::fresh` has it: a state that is returned, or a constant, is copied.
+    // As `State::fresh` has it, in place: a state that is returned, or a constant, is copied, and so is a bank whose arrays begin with two numbers.
+    // So the values begin as the deadlines do, and are emptied where they stand.
     let mut state = State {
         rows: [Row::BLANK; ROWS],
-        bank: Bank::FRESH,
+        bank: Bank {
+            values: [Wait::UNLIMITED; REGISTERS],
+            deadlines: [Wait::UNLIMITED; PAIRS],
+            last: 0,
+        },
         shared: Shared {
             flags: [false; FLAGS],
         },
         newest: 0,
     };
+    let Bank { values, .. } = &mut state.bank;
+    *values = [0; REGISTERS];
     state.begin(course.shape, starts);
     let accepted = take_records(course, rest, &mut state)?;
     report::write_lines(course, &state.rows, report);
