@@ -34,9 +34,9 @@ module _ (s : List ℕ) where
         rw (← read, rest.0, rest.1, fields, length-drop)
 
   -- refused: an empty rest at the beginning
-  pub setup_refused : {k : ℕ} → Err k ≡ setup_read most_processes s
-      → record { number = k; fields = replicate 5 0; starts = replicate most_processes 0; rest = 0 ∷ 0 ∷ [] } ≡ setup_out s
-  setup_refused {k} read =
+  pub setup_refused : {k begin count : ℕ} → begin ≡ 0 → count ≡ 0 → Err k ≡ setup_read most_processes s
+      → record { number = k; fields = replicate 5 0; starts = replicate most_processes 0; rest = begin ∷ count ∷ [] } ≡ setup_out s
+  setup_refused {k} at_none of_none read =
       let said = setup_was_refused most_processes s read in
       let rest = rest_refused most_processes s k said.0 said.1 in
-      rw (← read, rest.0, rest.1)
+      rw (at_none, of_none, ← read, rest.0, rest.1)

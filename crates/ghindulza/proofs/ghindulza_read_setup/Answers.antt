@@ -12,4 +12,4 @@ returns-in-Ok c =
     (setup_accepted c.args.bytes.now c.in-Ok.ensures)
 
 pub returns-in-Err : goal.returns-in-Err
-returns-in-Err c = rw c.from-in-Err.ensures (setup_refused c.args.bytes.now c.in-Err.ensures)
+returns-in-Err c = rw c.from-in-Err.ensures (setup_refused c.args.bytes.now (omega arith) (omega arith) c.in-Err.ensures)
