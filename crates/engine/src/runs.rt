@@ -60,8 +60,8 @@ fn run_steps(course: Course, starts: [u8; PLACES], rest: &[u8], report: &mut [u3
     requires room { line_width * course.shape.count ≤ length report.old }
     ensures { record { outcome = outcome_in result; report = report.new } ≡ ran_from course.shape starts rest.now report.old }
 {
-    // As `State::fresh` has it, in place: a state that is returned, or a constant, is copied, and so is a bank whose arrays begin with two numbers.
-    // So the values begin as the deadlines do, and are emptied where they stand.
+    // As `State::fresh` has it, in place: a state that is returned, or a constant, is copied, and so is a bank whose two arrays are filled with
+    // different numbers. So the values begin as the deadlines do, and are emptied where they stand.
     let mut state = State {
         rows: [Row::BLANK; ROWS],
         bank: Bank {

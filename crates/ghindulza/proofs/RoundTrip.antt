@@ -27,7 +27,7 @@ use Rattle.ghindulza.proofs.ghindulza_write_step.Kinds as write_step_kinds
 use Rattle.ghindulza.proofs.ghindulza_write_step.Reads as write_step_reads
 
 -- a writer's two numbers
-abbrev numbers : ℕ → ℕ → WrittenOut
+abbrev pub numbers : ℕ → ℕ → WrittenOut
 numbers number len = record { number = number; length = len }
 
 -- 0 is told of an accepted record alone, and with its length

@@ -11,15 +11,13 @@ use lib.ListN.{length, get_or, set, length-set}
 use lib.Seq.{ext_get_or, get_or-set_same, get_or-set_other}
 use Rattle.terms.specs.declared.ProcessNumber.{ProcessNumber}
 use Rattle.terms.specs.Numbers.{index_of}
-use Rattle.steps.specs.declared.Step.{Step}
 use Rattle.model.specs.declared.Shape.{Shape}
 use Rattle.model.specs.declared.Row.{Row}
 use Rattle.model.specs.declared.State.{State}
 use Rattle.model.specs.Time.{wake_at}
 use Rattle.model.specs.Routine.{ask_at, row_after, crash}
 use Rattle.model.specs.Memory.{reply}
-use Rattle.model.specs.Run.{blank, row_at, move_at, move, stop, after}
-use Rattle.model.proofs.Turns.{move_or_stop}
+use Rattle.model.specs.Run.{blank, move_at, move, stop}
 
 -- of the rows only row j is another: it is what g makes of it
 pub record Changed (j : ℕ) (g : Row → Row) (old new : List Row) : Type 0 where
@@ -65,7 +63,7 @@ module _ {j : ℕ} {g : Row → Row} {old a b : List Row} (x : Changed j g old a
   pub others_settled : (k : ℕ) → (k ≡ j → ⊥) → get_or a k blank ≡ get_or b k blank
   others_settled k other = x.others k other ∙ sym (y.others k other)
 
--- WHAT A STEP CHANGES
+-- WHAT A STEP CHANGES. (That every other row stays, whatever the step: `Turns.stays`.)
 
 -- what a move of process i at tick t makes of the process's row
 abbrev pub gone : Shape → State → ProcessNumber → ℕ → Row → Row
@@ -79,10 +77,3 @@ module _ (s : State) (i : ProcessNumber) (t : ℕ) (there : index_of i < length 
   pub crash_changes : Changed (index_of i) crash s.rows (stop s i t).rows
   unfolding stop
   crash_changes = changed s.rows (index_of i) crash there
-
--- THE LAW: whatever a process does, every other row stays as it is
-pub others_stay : (u : Shape) (s : State) (k : Step) → index_of k.process < length s.rows → (j : ℕ) → (j ≡ index_of k.process → ⊥)
-    → row_at (after u s k) j ≡ row_at s j
-others_stay u s k there j other =
-    move_or_stop u s k (λ x. row_at x j ≡ row_at s j) (λ e. (move_changes s k.process k.tick there u).others j other)
-    (λ e. (crash_changes s k.process k.tick there).others j other)
