@@ -195,6 +195,32 @@ fn setup_write_refusal(
     Ok(())
 }
 
+// Copies N to 2 N bytes: the first N and the last N, some of which may be the same ones.
+fn copy_ends<const N: usize>(from: &[u8], to: &mut [u8])
+    requires near { (N ≤ length from.now) × (length from.now ≤ N + N) }
+    requires same { length from.now ≡ length to.old }
+    ensures { to.new ≡ from.now }
+{
+    *to.first_chunk_mut::<N>().unwrap() = *from.first_chunk::<N>().unwrap();
+    *to.last_chunk_mut::<N>().unwrap() = *from.last_chunk::<N>().unwrap();
+}
+
+// Copies few bytes without the call that `copy_from_slice` makes, which took a fifth of the writer's time.
+fn copy_few(from: &[u8], to: &mut [u8])
+    requires few { length from.now ≤ most_processes }
+    requires same { length from.now ≡ length to.old }
+    ensures { to.new ≡ from.now }
+{
+    match from.len() {
+        0 => {}
+        1 => copy_ends::<1>(from, to),
+        2..=3 => copy_ends::<2>(from, to),
+        4..=7 => copy_ends::<4>(from, to),
+        8..=15 => copy_ends::<8>(from, to),
+        _ => copy_ends::<16>(from, to),
+    }
+}
+
 // Writes a setup of as many processes as start bytes are lent, over the buffer's first bytes. Kind and size are numbers, since a writer is
 // given any (3, 5).
 #[tactic(auto, using(crate::proofs::SetupLaws::writes_small))]
@@ -204,10 +230,9 @@ pub fn write_setup(kind: u32, size: u32, delta: u16, starts: &[u8], buffer: &mut
     setup_write_refusal(Trace::PROCESSES, kind, size, starts, buffer.len())?;
     let n = starts.len();
     let [low, high] = terms::u16_bytes(delta);
-    let head = [
+    *buffer.first_chunk_mut::<8>().unwrap() = [
         MARK[0], MARK[1], kind as u8, n as u8, size as u8, 0, low, high,
     ];
-    buffer[..8].copy_from_slice(&head);
-    buffer[8..8 + n].copy_from_slice(starts);
+    copy_few(starts, &mut buffer[8..8 + n]);
     Ok(8 + n)
 }
